@@ -1,0 +1,80 @@
+// Sets of operators as masks of 64 bits: bit `v` of a mask stands for operator `v`.
+ghost use mathlib.Core.Path.{_≡_};
+ghost use mathlib.Core.Bool.{Bool, not, _&&_, _||_};
+ghost use mathlib.Core.List.{[], _∷_};
+ghost use Prim.Native.Nat.{ℕ, _+_, _<_, _≤_};
+ghost use lib.Dec.{eqb, ltb};
+ghost use lib.ListN.{length};
+ghost use Rattle.std.specs.Options.{Cases};
+ghost use Rattle.std.specs.Orderings.{Decides};
+ghost use Rattle.sets.specs.Sets.{has, In, inside, meeting, members};
+
+// Whether operator `v` is in the set; none from 64 on is in any.
+pub fn holds(mask: u64, v: usize) -> bool
+    ensures { λ r. ⌜ r ≡ has mask v ⌝ }
+{
+    v < 64 && mask >> v & 1 == 1
+}
+
+// The set of operator `v` alone; from 64 on, the empty set.
+pub fn single(v: usize) -> u64
+    ensures { λ r. ⌜ ((u : ℕ) → has r u ≡ (eqb u v && ltb v 64)) ⌝ }
+{
+    if v < 64 { 1 << v } else { 0 }
+}
+
+// The operators of either set.
+pub fn union(s: u64, t: u64) -> u64
+    ensures { λ r. ⌜ ((v : ℕ) → has r v ≡ (has s v || has t v)) ⌝ }
+{
+    s | t
+}
+
+// The operators of `s` that are not in `t`.
+pub fn difference(s: u64, t: u64) -> u64
+    ensures { λ r. ⌜ ((v : ℕ) → has r v ≡ (has s v && not (has t v))) ⌝ }
+{
+    s & !t
+}
+
+// Whether every operator of `s` is in `t`.
+pub fn is_inside(s: u64, t: u64) -> bool
+    ensures value { λ r. ⌜ r ≡ inside s t ⌝ }
+    ensures means { λ r. ⌜ Decides r ((v : ℕ) → In v s → In v t) ⌝ }
+{
+    s & t == s
+}
+
+// Whether some operator is in both sets.
+pub fn is_meeting(s: u64, t: u64) -> bool
+    ensures value { λ r. ⌜ r ≡ meeting s t ⌝ }
+    ensures means { λ r. ⌜ Decides r ((v : ℕ) × (In v s × In v t)) ⌝ }
+{
+    s & t != 0
+}
+
+// Whether two masks are the same: exactly if they have the same members.
+pub fn is_same(s: u64, t: u64) -> bool
+    ensures { λ r. ⌜ Decides r ((v : ℕ) → has s v ≡ has t v) ⌝ }
+{
+    s == t
+}
+
+// How many operators the set has.
+pub fn size(mask: u64) -> u32
+    ensures { λ r. ⌜ r ≡ length (members mask) ⌝ }
+{
+    mask.count_ones()
+}
+
+// Takes the lowest operator out of the set; `None` where the set is empty.
+pub fn take_lowest(mask: &mut u64) -> Option<usize>
+    ensures { λ r. ⌜ Cases r ((members (now (mask .entry)) ≡ []) × (now (mask .exit) ≡ now (mask .entry))) (λ v. members (now (mask .entry)) ≡ v ∷ members (now (mask .exit))) ⌝ }
+{
+    let left = *mask;
+    if left == 0 {
+        return None;
+    }
+    *mask = left & (left - 1);
+    Some(left.trailing_zeros() as usize)
+}
