@@ -32,7 +32,11 @@ pub enum Refusal {
     // the contents entry with this index is wrong
     ContentsEntry(u8),
     // in the body of a section, the entry with an index is wrong
-    BodyEntry { section: u8, entry: usize, reason: Reason },
+    BodyEntry {
+        section: u8,
+        entry: usize,
+        reason: Reason,
+    },
     // the buffer is too short for what is to be written
     BufferTooShort,
 }

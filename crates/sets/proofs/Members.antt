@@ -16,7 +16,7 @@ use Rattle.std.proofs.shelf.Elements.{kept-by-append, all-append, all-weaker}
 use Rattle.std.proofs.shelf.Tests.{both-ways, cases-lt, cases-bool, cases-eq, ne-eqb, eq-eqb, eqb-true, eqb-false, lt-ltb, le-ltb}
 use Rattle.std.proofs.shelf.Ways.{tells}
 use Rattle.sets.specs.Sets.{has, In, upto, members, gathered}
-use Rattle.sets.proofs.Sets.{has-lowest, has-half, lowest-even, lowest-odd, even-odd, has-none, has-or, has-single}
+use Rattle.sets.proofs.Sets.{and-true, and-false, or-false, has-lowest, has-half, lowest-even, lowest-odd, even-odd, has-none, has-or, has-single}
 
 -- ---- tests over the numbers below n
 
@@ -54,27 +54,19 @@ pub kept-first : (p q : ℕ → Bool) (t n : ℕ) → t < n → p t ≡ true →
 kept-first p q t zero h first fails rest = absurd (omega arith)
 kept-first p q t (suc n) h first fails rest = elim (cases-eq n t) [
   | inl e ↦
-    let none : (v : ℕ) → v < n → p v ≡ false = λ v l. fails v (omega arith) in
-    let here : p n ≡ true = ap p e ∙ first in
-    let gone : (v : ℕ) → v < suc n → q v ≡ false = λ v l. rest v ∙ elim (cases-eq v n) [
-      | inl same ↦ ap (λ (b : Bool). p v && not b) (eq-eqb v t (same ∙ e)) ∙ never (p v)
-      | inr other ↦ ap (λ (b : Bool). b && not (eqb v t)) (none v (omega arith))
-    ] in
-    kept-more p n ∙ ap (λ (xs : List ℕ). xs ++ cond (p n) (n ∷ []) []) (kept-none p n none) ∙ ap (λ (b : Bool). cond b (n ∷ []) []) here
-    ∙ ap (λ (x : ℕ). x ∷ []) e ∙ ap (λ (xs : List ℕ). t ∷ xs) (sym (kept-none q (suc n) gone))
+      let none : (v : ℕ) → v < n → p v ≡ false = λ v l. fails v (omega arith) in
+      let here : p n ≡ true = ap p e ∙ first in
+      let gone : (v : ℕ) → v < suc n → q v ≡ false = λ v l. rest v ∙ elim (cases-eq v n) [
+        | inl same ↦ ap (λ (b : Bool). p v && not b) (eq-eqb v t (same ∙ e)) ∙ and-false (p v)
+        | inr other ↦ ap (λ (b : Bool). b && not (eqb v t)) (none v (omega arith))
+      ] in
+      kept-more p n ∙ ap (λ (xs : List ℕ). xs ++ cond (p n) (n ∷ []) []) (kept-none p n none) ∙ ap (λ (b : Bool). cond b (n ∷ []) []) here
+      ∙ ap (λ (x : ℕ). x ∷ []) e ∙ ap (λ (xs : List ℕ). t ∷ xs) (sym (kept-none q (suc n) gone))
   | inr e ↦
-    let later : q n ≡ p n = rest n ∙ ap (λ (b : Bool). p n && not b) (ne-eqb n t e) ∙ always (p n) in
-    kept-more p n ∙ ap (λ (xs : List ℕ). xs ++ cond (p n) (n ∷ []) []) (kept-first p q t n (omega arith) first fails rest)
-    ∙ ap (λ (b : Bool). t ∷ (kept-by q (upto n) ++ cond b (n ∷ []) [])) (sym later) ∙ ap (λ (xs : List ℕ). t ∷ xs) (sym (kept-more q n))
+      let later : q n ≡ p n = rest n ∙ ap (λ (b : Bool). p n && not b) (ne-eqb n t e) ∙ and-true (p n) in
+      kept-more p n ∙ ap (λ (xs : List ℕ). xs ++ cond (p n) (n ∷ []) []) (kept-first p q t n (omega arith) first fails rest)
+      ∙ ap (λ (b : Bool). t ∷ (kept-by q (upto n) ++ cond b (n ∷ []) [])) (sym later) ∙ ap (λ (xs : List ℕ). t ∷ xs) (sym (kept-more q n))
 ]
-  where
-    never : (b : Bool) → (b && false) ≡ false
-    never true = refl
-    never false = refl
-
-    always : (b : Bool) → (b && true) ≡ b
-    always true = refl
-    always false = refl
 
 -- what a test keeps passes it
 pub kept-all : (p : ℕ → Bool) (n : ℕ) → All (λ v. (v < n) × (p v ≡ true)) (kept-by p (upto n))
@@ -106,7 +98,7 @@ unfolding upto
 shifted-count p zero = elim (cases-bool (p 0)) [ inl e ↦ rw e refl | inr e ↦ rw e refl ]
 shifted-count p (suc n) =
     let more : (q : ℕ → Bool) (k : ℕ) → length (kept-by q (upto (suc k))) ≡ length (kept-by q (upto k)) + cond (q k) 1 0
-      = λ q k. ap length (kept-more q k) ∙ length-append (kept-by q (upto k)) (cond (q k) (k ∷ []) []) ∙ ap (λ (c : ℕ). length (kept-by q (upto k)) + c) (unit (q k) k) in
+    = λ q k. ap length (kept-more q k) ∙ length-append (kept-by q (upto k)) (cond (q k) (k ∷ []) []) ∙ ap (λ (c : ℕ). length (kept-by q (upto k)) + c) (unit (q k) k) in
     more p (suc n) ∙ ap (λ (c : ℕ). c + cond (p (suc n)) 1 0) (shifted-count p n) ∙ omega (arith, more (λ v. p (suc v)) n)
   where
     unit : (b : Bool) (k : ℕ) → length (cond b (k ∷ []) []) ≡ cond b 1 0
@@ -156,30 +148,26 @@ even-lowest m t rest half even twice l = record { here = has-half m t ∙ l .her
 odd-lowest : (m rest : ℕ) → m % 2 ≡ 1 → rest ≡ (m / 2) * 2 → Lowest m 0 rest
 odd-lowest m rest odd twice = record { here = lowest-odd m odd; below = λ v h. absurd (omega arith); others = others }
   where
-    kept : (b : Bool) → b ≡ (b && true)
-    kept true = refl
-    kept false = refl
-
     others : (v : ℕ) → has rest v ≡ (has m v && not (eqb v 0))
     others zero = lowest-even rest (omega arith) ∙ sym (ap (λ (b : Bool). b && false) (lowest-odd m odd))
     others (suc v) =
         let same : rest / 2 ≡ m / 2 = omega arith in
-        has-half rest v ∙ ap (λ (x : ℕ). has x v) same ∙ sym (has-half m v) ∙ kept (has m (suc v)) ∙ ap (λ (b : Bool). has m (suc v) && not b) (sym (ne-eqb (suc v) 0 (omega arith)))
+        has-half rest v ∙ ap (λ (x : ℕ). has x v) same ∙ sym (has-half m v) ∙ sym (and-true (has m (suc v))) ∙ ap (λ (b : Bool). has m (suc v) && not b) (sym (ne-eqb (suc v) 0 (omega arith)))
 
 lowest : (k m : ℕ) → 0 < m → m < 2 ^ k → Lowest m (trailingZeros k m) (bitAnd m (m - 1)) × (trailingZeros k m < k)
 unfolding trailingZeros
 lowest zero m p h = absurd (omega arith)
 lowest (suc k) m p h = elim (even-odd m) [
   | inl e ↦
-    let down : (m - 1) / 2 ≡ m / 2 - 1 = omega arith in
-    let twice : bitAnd m (m - 1) ≡ bitAnd (m / 2) (m / 2 - 1) * 2 = and-step m (m - 1) ∙ rw (e, down) (omega arith) in
-    let half = lowest k (m / 2) (omega arith) (omega (arith, pow-suc 2 k)) in
-    rw e (even-lowest m (trailingZeros k (m / 2)) (bitAnd m (m - 1)) (bitAnd (m / 2) (m / 2 - 1)) e twice (half .0), omega (arith, half .1))
+      let down : (m - 1) / 2 ≡ m / 2 - 1 = omega arith in
+      let twice : bitAnd m (m - 1) ≡ bitAnd (m / 2) (m / 2 - 1) * 2 = and-step m (m - 1) ∙ rw (e, down) (omega arith) in
+      let half = lowest k (m / 2) (omega arith) (omega (arith, pow-suc 2 k)) in
+      rw e (even-lowest m (trailingZeros k (m / 2)) (bitAnd m (m - 1)) (bitAnd (m / 2) (m / 2 - 1)) e twice (half .0), omega (arith, half .1))
   | inr e ↦
-    let down : (m - 1) / 2 ≡ m / 2 = omega arith in
-    let even : (m - 1) % 2 ≡ 0 = omega arith in
-    let twice : bitAnd m (m - 1) ≡ (m / 2) * 2 = and-step m (m - 1) ∙ rw (down, even, and-self (m / 2)) (omega arith) in
-    rw e (odd-lowest m (bitAnd m (m - 1)) e twice, omega arith)
+      let down : (m - 1) / 2 ≡ m / 2 = omega arith in
+      let even : (m - 1) % 2 ≡ 0 = omega arith in
+      let twice : bitAnd m (m - 1) ≡ (m / 2) * 2 = and-step m (m - 1) ∙ rw (down, even, and-self (m / 2)) (omega arith) in
+      rw e (odd-lowest m (bitAnd m (m - 1)) e twice, omega arith)
 ]
 
 -- the lowest member, and the members of the set without it
@@ -215,33 +203,20 @@ module _ (p : ℕ → Bool) (n v : ℕ) where
   further : (b : Bool) → p n ≡ b → ((ltb v n && p v) || (eqb v n && b)) ≡ (ltb v (suc n) && p v)
   further b e = elim (cases-eq v n) [
     | inl same ↦
-      let here : p v ≡ b = ap p same ∙ e in
-      rw (here, le-ltb v n (omega arith), eq-eqb v n same, lt-ltb v (suc n) (omega arith)) refl
+        let here : p v ≡ b = ap p same ∙ e in
+        rw (here, le-ltb v n (omega arith), eq-eqb v n same, lt-ltb v (suc n) (omega arith)) refl
     | inr other ↦
-      let near : ltb v (suc n) ≡ ltb v n = grind (arith, tells) in
-      rw (ne-eqb v n other, near) (absorbed (ltb v n && p v))
+        let near : ltb v (suc n) ≡ ltb v n = grind (arith, tells) in
+        rw (ne-eqb v n other, near) (or-false (ltb v n && p v))
   ]
-    where
-      absorbed : (c : Bool) → (c || false) ≡ c
-      absorbed true = refl
-      absorbed false = refl
 
   gathered-step : (b : Bool) → p n ≡ b → has (gathered p n) v ≡ (ltb v n && p v) → has (gathered p n + cond b (2 ^ n) 0) v ≡ (ltb v (suc n) && p v)
   gathered-step true e before =
       ap (λ (m : ℕ). has m v) (sym (or-above (gathered p n) n (gathered-lt p n))) ∙ has-or (gathered p n) (2 ^ n) v
-      ∙ ap (λ (c : Bool). c || has (2 ^ n) v) before ∙ ap (λ (c : Bool). (ltb v n && p v) || c) (has-single n v ∙ kept (eqb v n)) ∙ further true e
-    where
-      kept : (c : Bool) → c ≡ (c && true)
-      kept true = refl
-      kept false = refl
+      ∙ ap (λ (c : Bool). c || has (2 ^ n) v) before ∙ ap (λ (c : Bool). (ltb v n && p v) || c) (has-single n v ∙ sym (and-true (eqb v n))) ∙ further true e
   gathered-step false e before =
       let same : gathered p n + 0 ≡ gathered p n = omega arith in
-      ap (λ (m : ℕ). has m v) same ∙ before ∙ dropped (ltb v n && p v) (eqb v n) ∙ further false e
-    where
-      dropped : (c d : Bool) → c ≡ (c || (d && false))
-      dropped true d = refl
-      dropped false true = refl
-      dropped false false = refl
+      ap (λ (m : ℕ). has m v) same ∙ before ∙ sym (ap (λ (c : Bool). (ltb v n && p v) || c) (and-false (eqb v n)) ∙ or-false (ltb v n && p v)) ∙ further false e
 
 pub has-gathered : (p : ℕ → Bool) (n v : ℕ) → has (gathered p n) v ≡ (ltb v n && p v)
 unfolding gathered

@@ -13,7 +13,21 @@ use Rattle.std.specs.Orderings.{Decides}
 use Rattle.std.proofs.shelf.Tests.{eqb-true, eqb-false, eq-eqb, ne-eqb, both-ways, cases-lt, cases-bool, and-parts, and-from, not-true, lt-ltb, le-ltb}
 use Rattle.std.proofs.shelf.Bits.{one-shl}
 use Rattle.std.proofs.shelf.Ways.{tells}
-use Rattle.sets.specs.Sets.{has, In, inside, meeting}
+use Rattle.sets.specs.Sets.{has, In, inside, meeting, including, full}
+
+-- ---- tests
+
+pub and-true : (b : Bool) → (b && true) ≡ b
+and-true true = refl
+and-true false = refl
+
+pub and-false : (b : Bool) → (b && false) ≡ false
+and-false true = refl
+and-false false = refl
+
+pub or-false : (b : Bool) → (b || false) ≡ b
+or-false true = refl
+or-false false = refl
 
 -- ---- one digit
 
@@ -182,9 +196,9 @@ pub meeting-means : (s t : ℕ) → Decides (meeting s t) ((v : ℕ) × (In v s 
 unfolding meeting
 meeting-means s t = (
   λ e.
-    let some = some-in (bitAnd s t) (elim (cases-lt 0 (bitAnd s t)) [ inl p ↦ p | inr p ↦ absurd (eqb-false (bitAnd s t) 0 (not-true (eqb (bitAnd s t) 0) e) (omega arith)) ]) in
-    let both = and-parts (has s (some .0)) (has t (some .0)) (sym (has-and s t (some .0)) ∙ some .1) in
-    (some .0, (both .0, both .1)),
+      let some = some-in (bitAnd s t) (elim (cases-lt 0 (bitAnd s t)) [ inl p ↦ p | inr p ↦ absurd (eqb-false (bitAnd s t) 0 (not-true (eqb (bitAnd s t) 0) e) (omega arith)) ]) in
+      let both = and-parts (has s (some .0)) (has t (some .0)) (sym (has-and s t (some .0)) ∙ some .1) in
+      (some .0, (both .0, both .1)),
   λ p. ap not (ne-eqb (bitAnd s t) 0 (λ z. both-ways (has (bitAnd s t) (p .0)) (ap (λ (m : ℕ). has m (p .0)) z ∙ has-none (p .0)) (has-and s t (p .0) ∙ and-from (has s (p .0)) (has t (p .0)) (p .1 .0) (p .1 .1)))),
 )
 
@@ -199,16 +213,31 @@ has-difference s t v small few = has-and s (2 ^ 64 - 1 - t) v ∙ elim (cases-lt
   | inr l ↦ rw (has-above 64 s v small l) refl
 ]
 
-pub single-here : (v u : ℕ) → v < 64 → has ((1 * 2 ^ v) % 2 ^ 64) u ≡ (eqb u v && ltb v 64)
-single-here v u h = rw (one-shl v 64 h, lt-ltb v 64 h) (has-single v u ∙ kept (eqb u v))
-  where
-    kept : (b : Bool) → b ≡ (b && true)
-    kept true = refl
-    kept false = refl
+-- `mask | 1 << v`
+pub include-is : (m v : ℕ) → v < 64 → bitOr m ((1 * 2 ^ v) % 2 ^ 64) ≡ including m v
+unfolding including
+include-is m v h = ap (λ (x : ℕ). bitOr m x) (one-shl v 64 h)
 
-pub single-far : (v u : ℕ) → 64 ≤ v → has 0 u ≡ (eqb u v && ltb v 64)
-single-far v u h = rw (le-ltb v 64 h) (has-none u ∙ never (eqb u v))
-  where
-    never : (b : Bool) → false ≡ (b && false)
-    never true = refl
-    never false = refl
+pub has-including : (m v u : ℕ) → has (including m v) u ≡ (has m u || eqb u v)
+unfolding including
+has-including m v u = has-or m (2 ^ v) u ∙ ap (λ (b : Bool). has m u || b) (has-single v u)
+
+pub has-full : (n v : ℕ) → has (full n) v ≡ ltb v n
+unfolding full
+has-full n v = elim (cases-lt v n) [
+  | inl l ↦
+      let same : 2 ^ n - 1 ≡ 2 ^ n - 1 - 0 = omega arith in
+      ap (λ (m : ℕ). has m v) same ∙ has-complement n 0 v (pow-pos n) l ∙ ap not (has-none v) ∙ sym (lt-ltb v n l)
+  | inr l ↦ has-above n (2 ^ n - 1) v (omega (arith, pow-pos n)) l ∙ sym (le-ltb v n l)
+]
+
+pub full-lt : (n : ℕ) → full n < 2 ^ n
+unfolding full
+full-lt n = omega (arith, pow-pos n)
+
+-- below n and below 64
+pub full-below : (n v : ℕ) → has (full (min n 64)) v ≡ (ltb v n && ltb v 64)
+full-below n v = has-full (min n 64) v ∙ elim (cases-lt n 64) [
+  | inl l ↦ let e : min n 64 ≡ n = omega arith in ap (ltb v) e ∙ grind (arith, tells)
+  | inr l ↦ let e : min n 64 ≡ 64 = omega arith in ap (ltb v) e ∙ grind (arith, tells)
+]

@@ -3,15 +3,17 @@
 --   In v m         the same, as a fact
 --   inside s t     every operator of s is in t
 --   meeting s t    some operator is in both
+--   including m v  the set m with operator v
+--   full n         the set of the operators below n
 --   upto n         the numbers 0, 1, .. n - 1
 --   members m      the operators of the set m, ascending
 --   gathered p n   the set of those operators below n that pass the test p
-use Prim.Native.Nat.{ℕ, zero, suc, _+_, _/_, _%_, _^_}
+use Prim.Native.Nat.{ℕ, zero, suc, _+_, _-_, _/_, _%_, _^_}
 use mathlib.Core.Bool.{Bool, true, not, cond}
 use mathlib.Core.List.{List, [], _∷_, _++_}
 use mathlib.Core.Path.{_≡_}
 use lib.Dec.{eqb}
-use lib.Bits.{bitAnd}
+use lib.Bits.{bitAnd, bitOr}
 use Rattle.std.specs.shelf.Lists.{kept-by}
 
 unfoldable pub has : ℕ → ℕ → Bool
@@ -25,6 +27,12 @@ inside s t = eqb (bitAnd s t) s
 
 unfoldable pub meeting : ℕ → ℕ → Bool
 meeting s t = not (eqb (bitAnd s t) 0)
+
+unfoldable pub including : ℕ → ℕ → ℕ
+including m v = bitOr m (2 ^ v)
+
+unfoldable pub full : ℕ → ℕ
+full n = 2 ^ n - 1
 
 unfoldable pub upto : ℕ → List ℕ
 upto zero = []

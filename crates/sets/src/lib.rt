@@ -1,13 +1,13 @@
 // Sets of operators as masks of 64 bits: bit `v` of a mask stands for operator `v`.
 ghost use mathlib.Core.Path.{_≡_};
-ghost use mathlib.Core.Bool.{Bool, not, _&&_, _||_};
+ghost use mathlib.Core.Bool.{Bool, not, cond, _&&_, _||_};
 ghost use mathlib.Core.List.{[], _∷_};
-ghost use Prim.Native.Nat.{ℕ, _+_, _<_, _≤_};
+ghost use Prim.Native.Nat.{ℕ, min, _+_, _<_, _≤_};
 ghost use lib.Dec.{eqb, ltb};
 ghost use lib.ListN.{length};
 ghost use Rattle.std.specs.Options.{Cases};
 ghost use Rattle.std.specs.Orderings.{Decides};
-ghost use Rattle.sets.specs.Sets.{has, In, inside, meeting, members};
+ghost use Rattle.sets.specs.Sets.{has, In, inside, meeting, including, full, members};
 
 // Whether operator `v` is in the set; none from 64 on is in any.
 pub fn holds(mask: u64, v: usize) -> bool
@@ -16,11 +16,20 @@ pub fn holds(mask: u64, v: usize) -> bool
     v < 64 && mask >> v & 1 == 1
 }
 
-// The set of operator `v` alone; from 64 on, the empty set.
-pub fn single(v: usize) -> u64
-    ensures { λ r. ⌜ ((u : ℕ) → has r u ≡ (eqb u v && ltb v 64)) ⌝ }
+// The set with operator `v` too; from 64 on, the set as it is.
+pub fn include(mask: u64, v: usize) -> u64
+    ensures value { λ r. ⌜ r ≡ cond (ltb v 64) (including mask v) mask ⌝ }
+    ensures means { λ r. ⌜ ((u : ℕ) → has r u ≡ (has mask u || (eqb u v && ltb v 64))) ⌝ }
 {
-    if v < 64 { 1 << v } else { 0 }
+    if v < 64 { mask | 1 << v } else { mask }
+}
+
+// The set of the operators below `n`, at most 64.
+pub fn all_below(n: usize) -> u64
+    ensures value { λ r. ⌜ r ≡ full (min n 64) ⌝ }
+    ensures means { λ r. ⌜ ((v : ℕ) → has r v ≡ (ltb v n && ltb v 64)) ⌝ }
+{
+    if n < 64 { (1 << n) - 1 } else { u64::MAX }
 }
 
 // The operators of either set.

@@ -1,0 +1,5 @@
+pub mod Rules
+pub mod Nets
+pub mod Figures
+pub mod Views
+pub mod Changes

@@ -1,0 +1,18 @@
+ghost use Prim.Native.Nat.{_≤_};
+ghost use lib.ListN.{take};
+ghost use Rattle.sheet.specs.Rules.{Modest, Upward, most-operators, most-devices};
+use super::Operator;
+
+// The rows and the masks of targets beyond the operators say nothing.
+#[derive(Drop)]
+pub struct Sheet {
+    pub(crate) operators: usize,
+    pub(crate) rows: [Operator; 64],
+    pub(crate) targets: [u64; 64],
+    pub(crate) k: u8,
+    pub(crate) l: u8,
+    ghost few: { operators ≤ most-operators },
+    ghost modest: { Modest (take operators rows) },
+    ghost upward: { Upward (take operators targets) },
+    ghost devices: { (k ≤ most-devices) × (l ≤ most-devices) },
+}

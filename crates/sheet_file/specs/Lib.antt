@@ -1,0 +1,4 @@
+pub mod Contents
+pub mod Bodies
+pub mod Layout
+pub mod Written

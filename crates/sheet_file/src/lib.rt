@@ -1,0 +1,1 @@
+// Sheet files: reading, judging and writing them.
