@@ -1,5 +1,6 @@
 ghost use Prim.Native.Nat.{_≤_};
-ghost use lib.ListN.{take};
+ghost use lib.ListN.{length, take};
+ghost use mathlib.Core.Path.{_≡_};
 ghost use Rattle.sheet.specs.Rules.{Modest, Upward, most-operators, most-devices};
 use super::Operator;
 
@@ -12,6 +13,7 @@ pub struct Sheet {
     pub(crate) k: u8,
     pub(crate) l: u8,
     ghost few: { operators ≤ most-operators },
+    ghost tables: { (length rows ≡ most-operators) × (length targets ≡ most-operators) },
     ghost modest: { Modest (take operators rows) },
     ghost upward: { Upward (take operators targets) },
     ghost devices: { (k ≤ most-devices) × (l ≤ most-devices) },
