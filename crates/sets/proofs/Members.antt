@@ -5,17 +5,18 @@ use mathlib.Core.List.{List, [], _∷_, _++_, append-nil, append-assoc}
 use mathlib.Core.Logic.{_⊎_, inl, inr}
 use mathlib.Core.Path.{_≡_, refl, sym, ap, subst, _∙_}
 use native.Mathlib.Omega.{arith}
-use native.Mathlib.Nat.{pow-suc}
+use native.Mathlib.Nat.{pow-suc, suc-mul}
 use lib.Dec.{eqb, ltb}
 use lib.Bits.{bitAnd, bitOr, and-step, and-self, or-shifted-r}
 use lib.Count.{ones, ones-step, ones-le, trailingZeros, under}
 use lib.ListN.{length, length-append}
 use lib.Pow.{pow-pos, pow-mono}
-use Rattle.std.specs.shelf.Lists.{kept-by, All}
+use Rattle.std.specs.shelf.Lists.{kept-by, All, sumBy}
 use Rattle.std.proofs.shelf.Elements.{kept-by-append, all-append, all-weaker}
+use Rattle.std.proofs.shelf.Sums.{sumBy-push}
 use Rattle.std.proofs.shelf.Tests.{both-ways, cases-lt, cases-bool, cases-eq, ne-eqb, eq-eqb, eqb-true, eqb-false, lt-ltb, le-ltb}
 use Rattle.std.proofs.shelf.Ways.{tells}
-use Rattle.sets.specs.Sets.{has, In, upto, members, gathered}
+use Rattle.sets.specs.Sets.{has, In, including, upto, members, gathered}
 use Rattle.sets.proofs.Sets.{and-true, and-false, or-false, has-lowest, has-half, lowest-even, lowest-odd, even-odd, has-none, has-or, has-single}
 
 -- ---- tests over the numbers below n
@@ -233,3 +234,43 @@ members-kept p n m few is =
 
 pub members-gathered : (p : ℕ → Bool) (n : ℕ) → n ≤ 64 → members (gathered p n) ≡ kept-by p (upto n)
 members-gathered p n few = members-kept p n (gathered p n) few (has-gathered p n)
+
+-- ---- a loop that gathers: the operators below n are looked at, and n is next
+
+pub gathered-none : (p : ℕ → Bool) → 0 ≡ gathered p 0
+unfolding gathered
+gathered-none p = refl
+
+-- `r` is what `include` answers
+pub gathered-yes : (p : ℕ → Bool) (n m r : ℕ) → n < 64 → m ≡ gathered p n → p n ≡ true → r ≡ cond (ltb n 64) (including m n) m → r ≡ gathered p (n + 1)
+unfolding gathered including
+gathered-yes p n m r near before passes is =
+    let next : n + 1 ≡ suc n = omega arith in
+    is ∙ ap (λ (b : Bool). cond b (bitOr m (2 ^ n)) m) (lt-ltb n 64 near) ∙ ap (λ (x : ℕ). bitOr x (2 ^ n)) before ∙ or-above (gathered p n) n (gathered-lt p n)
+    ∙ sym (ap (gathered p) next ∙ ap (λ (b : Bool). gathered p n + cond b (2 ^ n) 0) passes)
+
+pub gathered-no : (p : ℕ → Bool) (n m : ℕ) → m ≡ gathered p n → p n ≡ false → m ≡ gathered p (n + 1)
+unfolding gathered
+gathered-no p n m before fails =
+    let next : n + 1 ≡ suc n = omega arith in
+    before ∙ omega arith ∙ sym (ap (gathered p) next ∙ ap (λ (b : Bool). gathered p n + cond b (2 ^ n) 0) fails)
+
+-- ---- a loop that sums over the numbers below n
+
+pub sum-upto-none : (f : ℕ → ℕ) → 0 ≡ sumBy f (upto 0)
+unfolding upto
+sum-upto-none f = refl
+
+pub sum-upto-more : (f : ℕ → ℕ) (n : ℕ) → sumBy f (upto (n + 1)) ≡ sumBy f (upto n) + f n
+unfolding upto
+sum-upto-more f n =
+    let next : n + 1 ≡ suc n = omega arith in
+    ap (λ (k : ℕ). sumBy f (upto k)) next ∙ sumBy-push f (upto n) n
+
+pub sum-upto-le : (f : ℕ → ℕ) (m n : ℕ) → ((v : ℕ) → f v ≤ m) → sumBy f (upto n) ≤ n * m
+unfolding upto
+sum-upto-le f m zero each = omega arith
+sum-upto-le f m (suc n) each = omega (arith, sumBy-push f (upto n) n, sum-upto-le f m n each, each n, suc-mul n m)
+
+pub members-few : (m : ℕ) → length (members m) ≤ 64
+members-few m = length-kept (has m) 64

@@ -39,6 +39,13 @@ pub fn union(s: u64, t: u64) -> u64
     s | t
 }
 
+// The operators of both sets.
+pub fn intersection(s: u64, t: u64) -> u64
+    ensures { λ r. ⌜ ((v : ℕ) → has r v ≡ (has s v && has t v)) ⌝ }
+{
+    s & t
+}
+
 // The operators of `s` that are not in `t`.
 pub fn difference(s: u64, t: u64) -> u64
     ensures { λ r. ⌜ ((v : ℕ) → has r v ≡ (has s v && not (has t v))) ⌝ }

@@ -50,8 +50,8 @@ modest-push rows o modest fits v = elim (cases-lt v (length rows)) [
 pub upward-push : (targets : List ℕ) → Upward targets → Upward (targets ++ (0 ∷ []))
 upward-push targets upward u v h = elim (cases-lt u (length targets)) [
   | inl l ↦
-    let old = upward u v (subst (λ (m : ℕ). In v m) (getD-append-left targets (0 ∷ []) 0 u l) h) in
-    (old .0, omega (arith, old .1, length-push targets 0))
+      let old = upward u v (subst (λ (m : ℕ). In v m) (getD-append-left targets (0 ∷ []) 0 u l) h) in
+      (old .0, omega (arith, old .1, length-push targets 0))
   | inr l ↦ elim (cases-eq (length targets) u) [
     | inl here ↦ absurd (both-ways (has 0 v) (has-none v) (subst (λ (m : ℕ). In v m) (getD-push targets 0 0 u here) h))
     | inr past ↦ absurd (both-ways (has 0 v) (has-none v) (subst (λ (m : ℕ). In v m) (getD-past (targets ++ (0 ∷ [])) u 0 (omega (arith, length-push targets 0))) h))
@@ -103,14 +103,14 @@ upward-with targets u v up near upward a b h =
     let size = length-set targets u (including (getD targets u 0) v) in
     elim (cases-eq a u) [
       | inl same ↦
-        let here : In b (including (getD targets u 0) v) = subst (λ (m : ℕ). In b m) (ap (λ (i : ℕ). getD (set targets u (including (getD targets u 0) v)) i 0) same ∙ getD-set-same targets u (including (getD targets u 0) v) 0 (omega arith)) h in
-        elim (or-cases (has (getD targets u 0) b) (eqb b v) (sym (has-including (getD targets u 0) v b) ∙ here)) [
-          | inl old ↦ let p = upward u b old in (omega (arith, p .0), omega (arith, p .1, size))
-          | inr new ↦ let e = eqb-true b v new in (omega arith, omega arith)
-        ]
+          let here : In b (including (getD targets u 0) v) = subst (λ (m : ℕ). In b m) (ap (λ (i : ℕ). getD (set targets u (including (getD targets u 0) v)) i 0) same ∙ getD-set-same targets u (including (getD targets u 0) v) 0 (omega arith)) h in
+          elim (or-cases (has (getD targets u 0) b) (eqb b v) (sym (has-including (getD targets u 0) v b) ∙ here)) [
+            | inl old ↦ let p = upward u b old in (omega (arith, p .0), omega (arith, p .1, size))
+            | inr new ↦ let e = eqb-true b v new in (omega arith, omega arith)
+          ]
       | inr other ↦
-        let p = upward a b (subst (λ (m : ℕ). In b m) (getD-set-other targets u a (including (getD targets u 0) v) 0 other) h) in
-        (p .0, omega (arith, p .1, size))
+          let p = upward a b (subst (λ (m : ℕ). In b m) (getD-set-other targets u a (including (getD targets u 0) v) 0 other) h) in
+          (p .0, omega (arith, p .1, size))
     ]
 
 -- in the front of a table, m being the mask that stands at u with v included

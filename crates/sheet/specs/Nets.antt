@@ -5,11 +5,13 @@
 --   after n u    the set of the operators that u has an edge to
 --   Edge n u v   an edge leads from u to v
 --   before n v   the set of the operators that have an edge to v
+--   edges-of n   how many edges there are
 --   empty        no operator, no edge, no device
 use Prim.Native.Nat.{ℕ}
 use mathlib.Core.List.{List, []}
 use lib.ListN.{length, getD}
-use Rattle.sets.specs.Sets.{has, In, gathered}
+use Rattle.std.specs.shelf.Lists.{sumBy}
+use Rattle.sets.specs.Sets.{has, In, members, upto, gathered}
 use Rattle.sheet.specs.declared.operators.Operator.{Operator}
 use Rattle.sheet.specs.Rules.{blank}
 
@@ -33,6 +35,9 @@ Edge n u v = In v (after n u)
 
 abbrev pub before : Net → ℕ → ℕ
 before n v = gathered (λ u. has (after n u) v) (size n)
+
+abbrev pub edges-of : Net → ℕ
+edges-of n = sumBy (λ u. length (members (after n u))) (upto (size n))
 
 abbrev pub empty : Net
 empty = record { rows = []; targets = []; k = 0; l = 0 }

@@ -6,22 +6,32 @@ ghost use Rattle.refusals.specs.Told.{outcome};
 ghost use Rattle.sheet.specs.Nets.{size, empty};
 ghost use Rattle.sheet.specs.Views.{net};
 ghost use Rattle.sheet.specs.Changes.{changed, within, add-refusal, added, join-refusal, joined, retime-refusal, retimed, count-refusal, counted};
-use refusals::Refusal;
 use super::Operator;
 use super::Sheet;
+use refusals::Refusal;
 
 pub const MOST_OPERATORS: usize = 64;
+
 pub const MOST_FIGURE: u32 = 1_000_000;
+
 pub const MOST_DEVICES: u8 = 8;
 
-const BLANK: Operator = Operator { acc: 0, cpu: 0, size: 0, link: 0 };
+const BLANK: Operator = Operator {
+    acc: 0,
+    cpu: 0,
+    size: 0,
+    link: 0,
+};
 
 impl Operator {
     // Whether each figure is within its limit.
     pub fn is_within(&self) -> bool
         ensures { λ r. ⌜ r ≡ within (now (self .entry)) ⌝ }
     {
-        self.acc <= MOST_FIGURE && self.cpu <= MOST_FIGURE && self.size <= MOST_FIGURE && self.link <= MOST_FIGURE
+        self.acc <= MOST_FIGURE
+            && self.cpu <= MOST_FIGURE
+            && self.size <= MOST_FIGURE
+            && self.link <= MOST_FIGURE
     }
 }
 
@@ -30,7 +40,13 @@ impl Sheet {
     pub fn new() -> Sheet
         ensures { λ r. ⌜ net r ≡ empty ⌝ }
     {
-        Sheet { operators: 0, rows: [BLANK; 64], targets: [0; 64], k: 0, l: 0 }
+        Sheet {
+            operators: 0,
+            rows: [BLANK; 64],
+            targets: [0; 64],
+            k: 0,
+            l: 0,
+        }
     }
 
     // Appends an operator and answers its number.
