@@ -4,3 +4,5 @@ pub mod Heads
 pub mod Checks
 pub mod Places
 pub mod Nets
+pub mod Accepted
+pub mod Unique
