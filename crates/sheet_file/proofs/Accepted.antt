@@ -1,21 +1,18 @@
 -- A file is accepted exactly if it is laid out by the rules.
-use Prim.Native.Nat.{ℕ, zero, suc, _+_, _-_, _*_, _/_, _%_, _<_, _≤_}
-use mathlib.Core.Bool.{Bool, true, false}
+use Prim.Native.Nat.{ℕ, zero, suc, _+_, _*_, _/_, _<_}
+use mathlib.Core.Bool.{true}
 use mathlib.Core.List.{List, []}
-use mathlib.Core.Logic.{_⊎_, inl, inr}
+use mathlib.Core.Logic.{inl, inr}
 use mathlib.Core.Path.{_≡_, refl, sym, ap, subst, _∙_}
 use native.Mathlib.Omega.{arith}
-use lib.ListN.{length, getD}
-use Rattle.std.proofs.shelf.Lists.{ext-getD, getD-past}
-use Rattle.std.proofs.shelf.Tests.{cases-lt, cases-bool}
-use Rattle.sets.specs.Sets.{has, In}
-use Rattle.sets.proofs.Sets.{same-sets}
-use Rattle.sheet.specs.declared.operators.Operator.{Operator}
-use Rattle.sheet.specs.Rules.{blank, Within, Modest, Upward, most-devices}
-use Rattle.sheet.specs.Nets.{Net, size, row, after, Edge}
-use Rattle.sheet_file.specs.Contents.{length-of, start, body, contents-refusal}
+use lib.ListN.{length}
+use Rattle.std.proofs.shelf.Lists.{getD-past}
+use Rattle.std.proofs.shelf.Tests.{cases-lt}
+use Rattle.sheet.specs.Rules.{blank, Within, Modest, Upward}
+use Rattle.sheet.specs.Nets.{Net, size, row, Edge}
+use Rattle.sheet_file.specs.Contents.{length-of, body, contents-refusal}
 use Rattle.sheet_file.specs.Bodies.{row-at, from, to, ascends, rows-in, edges-in, bodies-refusal, file-refusal, net-of}
-use Rattle.sheet_file.specs.Layout.{LaidOut, Before, pairs, edges-at, edge-from, edge-to}
+use Rattle.sheet_file.specs.Layout.{LaidOut, Before, pairs, edge-from, edge-to}
 use Rattle.sheet_file.proofs.Firsts.{first-nothing, nothing-first}
 use Rattle.sheet_file.proofs.Heads.{RightHead, contents-right, right-contents}
 use Rattle.sheet_file.proofs.Checks.{RightEdge, RightBodies, ascends-before, before-ascends, bodies-right, right-bodies}

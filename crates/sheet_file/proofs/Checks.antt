@@ -1,14 +1,14 @@
 -- The bodies of a file are right exactly if nothing is told of them.
---   RightEdge n bs i      edge i is upward, among n operators, and comes after the one before it
+--   RightEdge n bs i        edge i is upward, among n operators, and comes after the one before it
 --   RightBodies ops es cs   each row is within the limits, each edge right, and the counts within their limit
-use Prim.Native.Nat.{ℕ, zero, suc, _+_, _*_, _<_, _≤_}
-use mathlib.Core.Bool.{Bool, true, _&&_, _||_}
-use mathlib.Core.List.{List, [], _∷_}
-use mathlib.Core.Logic.{_⊎_, inl, inr}
-use mathlib.Core.Path.{_≡_, refl, sym, ap, _∙_}
+use Prim.Native.Nat.{ℕ, suc, _*_, _<_, _≤_}
+use mathlib.Core.Bool.{Bool, true, _&&_}
+use mathlib.Core.List.{List, []}
+use mathlib.Core.Logic.{inl, inr}
+use mathlib.Core.Path.{_≡_, refl}
 use native.Mathlib.Omega.{arith}
 use lib.Dec.{eqb, ltb, leb}
-use lib.ListN.{length, getD}
+use lib.ListN.{getD}
 use Rattle.std.proofs.shelf.Tests.{eqb-true, eq-eqb, leb-true, le-leb, ltb-true, lt-ltb, and-parts, and-from, or-cases, or-left, or-right}
 use Rattle.refusals.specs.declared.Reason.the-variants as reasons
 use Rattle.refusals.specs.declared.Refusal.the-variants.{BodyEntry}

@@ -1,18 +1,18 @@
 -- What the rows and the edges of a body make of a sheet.
-use Prim.Native.Nat.{ℕ, zero, suc, _+_, _-_, _*_, _<_, _≤_}
-use mathlib.Core.Bool.{Bool, true, false, _&&_, _||_}
+--   Inside bs i n   the first i edges of a body begin at operators that n has a set of targets for
+use Prim.Native.Nat.{ℕ, zero, suc, _+_, _-_, _*_, _<_}
+use mathlib.Core.Bool.{Bool, _&&_, _||_}
 use mathlib.Core.List.{List, [], _∷_, _++_}
 use mathlib.Core.Logic.{_⊎_, inl, inr}
-use mathlib.Core.Path.{_≡_, refl, sym, ap, subst, _∙_}
+use mathlib.Core.Path.{_≡_, refl, sym, ap, _∙_}
 use native.Mathlib.Omega.{arith}
 use native.Mathlib.Numerals.{add-one}
 use lib.Dec.{eqb}
 use lib.ListN.{length, getD, set, replicate}
 use Rattle.std.proofs.shelf.Lists.{append-nil, append-assoc, length-append, length-push, length-replicate, length-set, getD-append-left, getD-append-right, getD-push, getD-past, getD-replicate, getD-set-same, getD-set-other, replicate-more}
-use Rattle.std.proofs.shelf.Tests.{cases-eq, cases-lt, eq-eqb, ne-eqb, eqb-true, and-parts, and-from, and-left, or-cases, or-left, or-right}
+use Rattle.std.proofs.shelf.Tests.{cases-eq, cases-lt, eq-eqb, ne-eqb, eqb-true, and-parts, and-from, or-cases, or-left, or-right}
 use Rattle.sets.specs.Sets.{has, including}
 use Rattle.sets.proofs.Sets.{has-including, or-false}
-use Rattle.sheet.specs.declared.operators.Operator.{Operator}
 use Rattle.sheet.specs.Rules.{blank}
 use Rattle.sheet.specs.Nets.{Net, size, row, after, Edge}
 use Rattle.sheet.specs.Changes.{added, joined}
@@ -85,12 +85,13 @@ with-rows-after bs v n u = ap (λ (ts : List ℕ). getD ts u 0) (with-rows-targe
 
 -- ---- one edge
 
+-- an edge was there or is the new one
 pub joined-after : (n : Net) (u v p q : ℕ) → u < length (n .targets) → has (after (joined n u v) p) q ≡ (has (after n p) q || (eqb p u && eqb q v))
 joined-after n u v p q h = elim (cases-eq p u) [
   | inl e ↦
       let here : after (joined n u v) p ≡ including (after n p) v =
-        ap (λ (x : ℕ). getD (set (n .targets) u (including (after n u) v)) x 0) e
-        ∙ getD-set-same (n .targets) u (including (after n u) v) 0 h ∙ ap (λ (x : ℕ). including (after n x) v) (sym e) in
+      ap (λ (x : ℕ). getD (set (n .targets) u (including (after n u) v)) x 0) e
+      ∙ getD-set-same (n .targets) u (including (after n u) v) 0 h ∙ ap (λ (x : ℕ). including (after n x) v) (sym e) in
       ap (λ (m : ℕ). has m q) here ∙ has-including (after n p) v q
       ∙ ap (λ (b : Bool). has (after n p) q || (b && eqb q v)) (sym (eq-eqb p u e))
   | inr e ↦
@@ -123,7 +124,7 @@ with-edges-masks bs zero n = refl
 with-edges-masks bs (suc i) n =
     length-set (with-edges bs i n .targets) (from bs i) (including (after (with-edges bs i n) (from bs i)) (to bs i)) ∙ with-edges-masks bs i n
 
--- the edges of the body are all that comes to those that were there
+-- one edge more
 pub with-edges-step : (bs : List ℕ) (i : ℕ) (n : Net) → from bs i < length (n .targets) → (u v : ℕ) → has (after (with-edges bs (suc i) n) u) v ≡ (has (after (with-edges bs i n) u) v || (eqb u (from bs i) && eqb v (to bs i)))
 unfolding with-edges
 with-edges-step bs i n h u v = joined-after (with-edges bs i n) (from bs i) (to bs i) u v (omega (arith, with-edges-masks bs i n))
@@ -134,6 +135,7 @@ Inside bs i n = (j : ℕ) → j < i → from bs j < length (n .targets)
 fewer : (bs : List ℕ) (i : ℕ) (n : Net) → Inside bs (suc i) n → Inside bs i n
 fewer bs i n h j l = h j (omega arith)
 
+-- an edge was there or is one of the body
 pub with-edges-cases : (bs : List ℕ) (i : ℕ) (n : Net) → Inside bs i n → (u v : ℕ) → Edge (with-edges bs i n) u v → Edge n u v ⊎ ((j : ℕ) × (j < i) × (from bs j ≡ u) × (to bs j ≡ v))
 unfolding with-edges
 with-edges-cases bs zero n h u v e = inl e
@@ -149,6 +151,7 @@ with-edges-cases bs (suc i) n h u v e =
           inr (i, omega arith, sym (eqb-true u (from bs i) (same .0)), sym (eqb-true v (to bs i) (same .1)))
     ]
 
+-- an edge that was there stays
 pub with-edges-old : (bs : List ℕ) (i : ℕ) (n : Net) → Inside bs i n → (u v : ℕ) → Edge n u v → Edge (with-edges bs i n) u v
 unfolding with-edges
 with-edges-old bs zero n h u v e = e
@@ -156,6 +159,7 @@ with-edges-old bs (suc i) n h u v e =
     with-edges-step bs i n (h i (omega arith)) u v
     ∙ or-left (has (after (with-edges bs i n) u) v) (eqb u (from bs i) && eqb v (to bs i)) (with-edges-old bs i n (fewer bs i n h) u v e)
 
+-- each edge of the body is there
 pub with-edges-new : (bs : List ℕ) (i : ℕ) (n : Net) → Inside bs i n → (j : ℕ) → j < i → Edge (with-edges bs i n) (from bs j) (to bs j)
 with-edges-new bs zero n h j l = absurd (omega arith)
 with-edges-new bs (suc i) n h j l =

@@ -1,7 +1,7 @@
 -- The contents of a file are right exactly if nothing is told of them.
 --   RightEntry f i d   the contents entry with index i is as it is due, but for where its body ends
 --   RightHead f        the letters, the entries, and the end of the last body are right
-use Prim.Native.Nat.{ℕ, zero, suc, _+_, _*_, _%_, _<_, _≤_}
+use Prim.Native.Nat.{ℕ, _+_, _%_, _<_, _≤_}
 use mathlib.Core.Bool.{Bool, true, _&&_}
 use mathlib.Core.List.{List, [], _∷_}
 use mathlib.Core.Path.{_≡_, refl, sym, ap, _∙_}
@@ -12,9 +12,9 @@ use Rattle.std.proofs.shelf.Lists.{getD-take}
 use Rattle.std.proofs.shelf.Tests.{eqb-true, eq-eqb, leb-true, le-leb, and-parts, and-from}
 use Rattle.refusals.specs.declared.Refusal.the-variants.{NotASheetFile, ContentsEntry}
 use Rattle.refusals.specs.Told.{told}
-use Rattle.sheet.specs.Changes.{unless, first}
+use Rattle.sheet.specs.Changes.{unless}
 use Rattle.sheet_file.specs.Contents.{letters, section-of, offset-of, length-of, Due, dues, start, begins, ends-well, entry-right, head-refusal, entries-refusal, contents-refusal}
-use Rattle.sheet_file.proofs.Firsts.{unless-nothing, nothing-unless, first-nothing, nothing-first}
+use Rattle.sheet_file.proofs.Firsts.{unless-nothing, first-nothing}
 
 -- ---- the letters
 
@@ -72,8 +72,7 @@ module _ (f : List ℕ) (i : ℕ) (d : Due) (ds : List Due) where
       let q = and-parts (eqb (offset-of f i) (start f i)) whole-test (p .1) in
       let r = and-parts (eqb (length-of f i % d .unit) 0) least-test (q .1) in
       let s = and-parts (leb (d .least) (length-of f i)) most-test (r .1) in
-      let t = and-parts (leb (length-of f i) (d .most)) ends-test (s .1) in
-      (
+      let t = and-parts (leb (length-of f i) (d .most)) ends-test (s .1) in (
         record {
           section = eqb-true (section-of f i) (d .section) (p .0);
           offset = eqb-true (offset-of f i) (start f i) (q .0);

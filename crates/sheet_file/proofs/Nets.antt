@@ -1,8 +1,8 @@
 -- The sheet that three bodies say.
-use Prim.Native.Nat.{ℕ, zero, suc, _+_, _*_, _<_, _≤_}
-use mathlib.Core.List.{List, []}
-use mathlib.Core.Logic.{_⊎_, inl, inr}
-use mathlib.Core.Path.{_≡_, refl, sym, ap, _∙_}
+use Prim.Native.Nat.{ℕ, _+_, _*_, _<_}
+use mathlib.Core.List.{List}
+use mathlib.Core.Logic.{inl, inr}
+use mathlib.Core.Path.{_≡_, refl, ap, _∙_}
 use native.Mathlib.Omega.{arith}
 use lib.ListN.{length, getD}
 use Rattle.std.proofs.shelf.Tests.{both-ways}
@@ -11,7 +11,7 @@ use Rattle.sets.proofs.Sets.{has-none}
 use Rattle.sheet.specs.declared.operators.Operator.{Operator}
 use Rattle.sheet.specs.Rules.{blank}
 use Rattle.sheet.specs.Nets.{Net, size, row, after, Edge, empty}
-use Rattle.sheet_file.specs.Bodies.{row-at, from, to, rows-in, edges-in, with-rows, with-edges, net-of-bodies}
+use Rattle.sheet_file.specs.Bodies.{row-at, from, to, rows-in, edges-in, with-rows, net-of-bodies}
 use Rattle.sheet_file.proofs.Edges.{with-rows-size, with-rows-new, with-rows-masks, with-rows-after, with-edges-rows, with-edges-size, with-edges-masks, with-edges-cases, with-edges-new}
 
 module _ (operators edges counts : List ℕ) where

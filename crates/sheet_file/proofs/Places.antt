@@ -1,9 +1,9 @@
 -- Reading in a body is reading in the file.
-use Prim.Native.Nat.{ℕ, zero, suc, _+_, _-_, _*_, _/_, _<_, _≤_}
+use Prim.Native.Nat.{ℕ, _+_, _*_, _<_, _≤_}
 use mathlib.Core.List.{List}
-use mathlib.Core.Path.{_≡_, refl, sym, ap, _∙_}
+use mathlib.Core.Path.{_≡_, refl, ap, _∙_}
 use native.Mathlib.Omega.{arith}
-use lib.ListN.{length, getD, take, drop}
+use lib.ListN.{length, getD, drop}
 use Rattle.std.proofs.shelf.Lists.{length-take-le, length-drop, getD-take, getD-drop}
 use Rattle.bytes.specs.Little.{field}
 use Rattle.bytes.proofs.Little.{field-part}
@@ -23,8 +23,8 @@ module _ (f : List ℕ) (i : ℕ) where
   body-row at h =
       let place : (k : ℕ) → k ≤ 12 → field (body f i) (at + k) 4 ≡ field f (start f i + at + k) 4
       = λ k l.
-          let same : start f i + (at + k) ≡ start f i + at + k = omega arith in
-          field-part f (start f i) (at + k) 4 (length-of f i) (omega arith) ∙ ap (λ (x : ℕ). field f x 4) same in
+      let same : start f i + (at + k) ≡ start f i + at + k = omega arith in
+      field-part f (start f i) (at + k) 4 (length-of f i) (omega arith) ∙ ap (λ (x : ℕ). field f x 4) same in
       let acc = field-part f (start f i) at 4 (length-of f i) (omega arith) in
       let cpu = place 4 (omega arith) in
       let size = place 8 (omega arith) in
