@@ -1,2 +1,3 @@
 pub mod Rising
 pub mod Pairs
+pub mod Written
