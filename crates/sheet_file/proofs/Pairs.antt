@@ -1,6 +1,7 @@
 -- The edges of a sheet as a list of pairs, and the bytes of that list.
 --   edges-from n u    the edges from u, ascending
 --   edges-below n j   the edges from the operators below j, ascending
+--   edge-list n       all edges, ascending
 --   two e             the two bytes of an edge
 --   room u            how many edges the operators below u can have, of 64
 use Prim.Native.Nat.{ℕ, zero, suc, _+_, _-_, _*_, _<_, _≤_}
@@ -91,7 +92,7 @@ length-edges-bytes n = ap length (sym (bytes-are-pairs n)) ∙ length-two (edge-
 abbrev pub BeforePair : ℕ × ℕ → ℕ × ℕ → Type 0
 BeforePair d e = Before (d .0) (d .1) (e .0) (e .1)
 
--- what holds of each edge from u that leads to a member
+-- what holds of each edge from u, and of each from the operators below j
 all-from : (n : Net) (P : ℕ × ℕ → Type 0) (u : ℕ) → ((v : ℕ) → Edge n u v → P (u, v)) → All P (edges-from n u)
 all-from n P u h =
     all-map P (λ v. (u, v)) (members (after n u))

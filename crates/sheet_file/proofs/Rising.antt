@@ -1,8 +1,9 @@
 -- Lists in which each element stands before every later one, and the lists that the numbers below n give.
 --   Rising R xs   each element of xs stands in the relation R to every later one
-use Prim.Native.Nat.{ℕ, zero, suc, _+_, _-_, _<_, _≤_}
+use Prim.Native.Nat.{ℕ, zero, suc, _-_, _<_, _≤_}
 use mathlib.Core.Bool.{Bool, true, false, cond}
 use mathlib.Core.List.{List, [], _∷_, _++_, map}
+use mathlib.Core.Logic.{inl, inr}
 use mathlib.Core.Path.{_≡_, refl, sym, ap, subst, _∙_}
 use native.Mathlib.Omega.{arith}
 use lib.ListN.{length, getD}
@@ -10,7 +11,6 @@ use Rattle.std.specs.shelf.Lists.{joined, kept-by, All, Has}
 use Rattle.std.proofs.shelf.Elements.{all-append, all-kept-by, all-getD, all-push, all-weaker, all-map, has-append-left, has-append-right}
 use Rattle.std.proofs.shelf.Lists.{joined-more, length-append, getD-map, length-map}
 use Rattle.std.proofs.shelf.Tests.{cases-lt, cases-bool}
-use mathlib.Core.Logic.{inl, inr}
 use Rattle.sets.specs.Sets.{upto}
 use Rattle.sets.proofs.Members.{kept-more}
 

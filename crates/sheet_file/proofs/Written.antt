@@ -1,5 +1,9 @@
 -- What the writer makes is laid out by the rules.
-use Prim.Native.Nat.{ℕ, zero, suc, _+_, _-_, _*_, _/_, _^_, _<_, _≤_}
+--   field-past, byte-past, row-past   what is read past a front
+--   row-read                          a row is read again
+--   length-file                       how long the file is
+--   written-laid-out                  the file of a sheet that keeps the rules is laid out, and says the sheet
+use Prim.Native.Nat.{ℕ, zero, suc, _+_, _-_, _*_, _/_, _<_, _≤_}
 use mathlib.Core.List.{List, [], _∷_, _++_}
 use mathlib.Core.Path.{_≡_, refl, sym, ap, subst, _∙_}
 use native.Mathlib.Omega.{arith}
@@ -13,10 +17,10 @@ use Rattle.sheet.specs.Rules.{Within, blank}
 use Rattle.sheet.specs.Nets.{Net, size, row, Edge}
 use Rattle.sheet_file.specs.Bodies.{row-at}
 use Rattle.sheet_file.specs.Contents.{length-of}
-use Rattle.sheet_file.specs.Layout.{LaidOut, Before, EntryAt, pairs, edges-at, edge-from, edge-to}
+use Rattle.sheet_file.specs.Layout.{LaidOut, Before, pairs, edges-at, edge-from, edge-to}
 use Rattle.sheet_file.specs.Written.{row-bytes, rows-bytes, edges-bytes, head-bytes, file-of}
 use Rattle.sheet_file.specs.Kept.{Kept}
-use Rattle.sheet_file.proofs.Pairs.{two, edge-list, BeforePair, from-two, to-two, length-two, bytes-are-pairs, length-edges-bytes, pairs-ascend, pairs-listed, pairs-complete, edges-short}
+use Rattle.sheet_file.proofs.Pairs.{two, edge-list, BeforePair, from-two, to-two, bytes-are-pairs, length-edges-bytes, pairs-ascend, pairs-listed, pairs-complete, edges-short}
 
 -- ---- what is read past a front
 
