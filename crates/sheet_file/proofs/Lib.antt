@@ -6,3 +6,6 @@ pub mod Places
 pub mod Nets
 pub mod Accepted
 pub mod Unique
+pub mod Rising
+pub mod Pairs
+pub mod Written
