@@ -192,6 +192,34 @@ inside-means s t = (
     kept s t v true e h = rw (e, h e) refl
     kept s t v false e h = rw e refl
 
+-- where one set is not inside another, some operator is in the one and not in the other
+pub some-outside : (s t : ℕ) → inside s t ≡ false → (v : ℕ) × (In v s × (has t v ≡ false))
+unfolding inside
+some-outside s t h = bin-ind (λ m. (t : ℕ) → (bitAnd m t ≡ m → ⊥) → (v : ℕ) × (In v m × (has t v ≡ false))) base step s t (eqb-false (bitAnd s t) s h)
+  where
+    base : (t : ℕ) → (bitAnd 0 t ≡ 0 → ⊥) → (v : ℕ) × (In v 0 × (has t v ≡ false))
+    base t differ = absurd (differ refl)
+
+    step : (m : ℕ) → ((t : ℕ) → (bitAnd (m / 2) t ≡ m / 2 → ⊥) → (v : ℕ) × (In v (m / 2) × (has t v ≡ false))) → (t : ℕ) → (bitAnd m t ≡ m → ⊥) → (v : ℕ) × (In v m × (has t v ≡ false))
+    step m half t differ =
+        let e = and-step m t in
+        let further : (m % 2 ≤ t % 2) → (v : ℕ) × (In v m × (has t v ≡ false)) = λ low.
+        let found = half (t / 2) (λ same. differ (omega arith)) in
+        (suc (found .0), (has-half m (found .0) ∙ found .1 .0, has-half t (found .0) ∙ found .1 .1)) in
+        elim (even-odd m) [
+          | inl p ↦ further (omega arith)
+          | inr p ↦ elim (even-odd t) [
+            | inl q ↦ (0, (lowest-odd m p, lowest-even t q))
+            | inr q ↦ further (omega arith)
+          ]
+        ]
+
+pub outside-some : (s t v : ℕ) → In v s → has t v ≡ false → inside s t ≡ false
+outside-some s t v h k = elim (cases-bool (inside s t)) [
+  | inl e ↦ absurd (both-ways (has t v) k (inside-means s t .0 e v h))
+  | inr e ↦ e
+]
+
 pub meeting-means : (s t : ℕ) → Decides (meeting s t) ((v : ℕ) × (In v s × In v t))
 unfolding meeting
 meeting-means s t = (

@@ -47,14 +47,14 @@ modest-push rows o modest fits v = elim (cases-lt v (length rows)) [
   ]
 ]
 
-pub upward-push : (targets : List ℕ) → Upward targets → Upward (targets ++ (0 ∷ []))
-upward-push targets upward u v h = elim (cases-lt u (length targets)) [
+pub upward-push : (successors : List ℕ) → Upward successors → Upward (successors ++ (0 ∷ []))
+upward-push successors upward u v h = elim (cases-lt u (length successors)) [
   | inl l ↦
-      let old = upward u v (subst (λ (m : ℕ). In v m) (getD-append-left targets (0 ∷ []) 0 u l) h) in
-      (old .0, omega (arith, old .1, length-push targets 0))
-  | inr l ↦ elim (cases-eq (length targets) u) [
-    | inl here ↦ absurd (both-ways (has 0 v) (has-none v) (subst (λ (m : ℕ). In v m) (getD-push targets 0 0 u here) h))
-    | inr past ↦ absurd (both-ways (has 0 v) (has-none v) (subst (λ (m : ℕ). In v m) (getD-past (targets ++ (0 ∷ [])) u 0 (omega (arith, length-push targets 0))) h))
+      let old = upward u v (subst (λ (m : ℕ). In v m) (getD-append-left successors (0 ∷ []) 0 u l) h) in
+      (old .0, omega (arith, old .1, length-push successors 0))
+  | inr l ↦ elim (cases-eq (length successors) u) [
+    | inl here ↦ absurd (both-ways (has 0 v) (has-none v) (subst (λ (m : ℕ). In v m) (getD-push successors 0 0 u here) h))
+    | inr past ↦ absurd (both-ways (has 0 v) (has-none v) (subst (λ (m : ℕ). In v m) (getD-past (successors ++ (0 ∷ [])) u 0 (omega (arith, length-push successors 0))) h))
   ]
 ]
 
@@ -62,12 +62,12 @@ upward-push targets upward u v h = elim (cases-lt u (length targets)) [
 pub modest-more : (rows : List Operator) (n : ℕ) (o : Operator) → n < length rows → Modest (take n rows) → within o ≡ true → Modest (take (n + 1) (set rows n o))
 modest-more rows n o room modest fits = subst Modest (sym (take-more-set rows n o room)) (modest-push (take n rows) o modest (within-means o fits))
 
-pub upward-more : (targets : List ℕ) (n : ℕ) → n < length targets → Upward (take n targets) → Upward (take (n + 1) (set targets n 0))
-upward-more targets n room upward = subst Upward (sym (take-more-set targets n 0 room)) (upward-push (take n targets) upward)
+pub upward-more : (successors : List ℕ) (n : ℕ) → n < length successors → Upward (take n successors) → Upward (take (n + 1) (set successors n 0))
+upward-more successors n room upward = subst Upward (sym (take-more-set successors n 0 room)) (upward-push (take n successors) upward)
 
-pub added-more : (rows : List Operator) (targets : List ℕ) (n k l : ℕ) (o : Operator) → n < length rows → n < length targets
-    → record { rows = take (n + 1) (set rows n o); targets = take (n + 1) (set targets n 0); k = k; l = l } ≡ added (record { rows = take n rows; targets = take n targets; k = k; l = l }) o
-added-more rows targets n k l o room masks = rw (take-more-set rows n o room, take-more-set targets n 0 masks) refl
+pub added-more : (rows : List Operator) (successors : List ℕ) (n k l : ℕ) (o : Operator) → n < length rows → n < length successors
+    → record { rows = take (n + 1) (set rows n o); successors = take (n + 1) (set successors n 0); k = k; l = l } ≡ added (record { rows = take n rows; successors = take n successors; k = k; l = l }) o
+added-more rows successors n k l o room masks = rw (take-more-set rows n o room, take-more-set successors n 0 masks) refl
 
 -- ---- one row changed
 
@@ -98,30 +98,30 @@ module _ (n : Net) (u v : ℕ) (from : u < size n) (to : v < size n) (up : u < v
   pub join-granted : has (after n u) v ≡ false → [] ≡ join-refusal n u v
   join-granted new = rw (ends, lt-ltb u v up, new) refl
 
-upward-with : (targets : List ℕ) (u v : ℕ) → u < v → v < length targets → Upward targets → Upward (set targets u (including (getD targets u 0) v))
-upward-with targets u v up near upward a b h =
-    let size = length-set targets u (including (getD targets u 0) v) in
+upward-with : (successors : List ℕ) (u v : ℕ) → u < v → v < length successors → Upward successors → Upward (set successors u (including (getD successors u 0) v))
+upward-with successors u v up near upward a b h =
+    let size = length-set successors u (including (getD successors u 0) v) in
     elim (cases-eq a u) [
       | inl same ↦
-          let here : In b (including (getD targets u 0) v) = subst (λ (m : ℕ). In b m) (ap (λ (i : ℕ). getD (set targets u (including (getD targets u 0) v)) i 0) same ∙ getD-set-same targets u (including (getD targets u 0) v) 0 (omega arith)) h in
-          elim (or-cases (has (getD targets u 0) b) (eqb b v) (sym (has-including (getD targets u 0) v b) ∙ here)) [
+          let here : In b (including (getD successors u 0) v) = subst (λ (m : ℕ). In b m) (ap (λ (i : ℕ). getD (set successors u (including (getD successors u 0) v)) i 0) same ∙ getD-set-same successors u (including (getD successors u 0) v) 0 (omega arith)) h in
+          elim (or-cases (has (getD successors u 0) b) (eqb b v) (sym (has-including (getD successors u 0) v b) ∙ here)) [
             | inl old ↦ let p = upward u b old in (omega (arith, p .0), omega (arith, p .1, size))
             | inr new ↦ let e = eqb-true b v new in (omega arith, omega arith)
           ]
       | inr other ↦
-          let p = upward a b (subst (λ (m : ℕ). In b m) (getD-set-other targets u a (including (getD targets u 0) v) 0 other) h) in
+          let p = upward a b (subst (λ (m : ℕ). In b m) (getD-set-other successors u a (including (getD successors u 0) v) 0 other) h) in
           (p .0, omega (arith, p .1, size))
     ]
 
 -- in the front of a table, m being the mask that stands at u with v included
-pub upward-set : (targets : List ℕ) (n u v m : ℕ) → n ≤ length targets → u < v → v < n → m ≡ including (getD targets u 0) v → Upward (take n targets) → Upward (take n (set targets u m))
-upward-set targets n u v m room up near is upward =
-    let here : getD (take n targets) u 0 ≡ getD targets u 0 = getD-take n targets u 0 (omega arith) in
-    let with-edge = upward-with (take n targets) u v up (omega (arith, length-take-le n targets room)) upward in
-    subst Upward (ap (λ (x : ℕ). set (take n targets) u x) (ap (λ (x : ℕ). including x v) here ∙ sym is) ∙ sym (take-set-lt n targets u m (omega arith))) with-edge
+pub upward-set : (successors : List ℕ) (n u v m : ℕ) → n ≤ length successors → u < v → v < n → m ≡ including (getD successors u 0) v → Upward (take n successors) → Upward (take n (set successors u m))
+upward-set successors n u v m room up near is upward =
+    let here : getD (take n successors) u 0 ≡ getD successors u 0 = getD-take n successors u 0 (omega arith) in
+    let with-edge = upward-with (take n successors) u v up (omega (arith, length-take-le n successors room)) upward in
+    subst Upward (ap (λ (x : ℕ). set (take n successors) u x) (ap (λ (x : ℕ). including x v) here ∙ sym is) ∙ sym (take-set-lt n successors u m (omega arith))) with-edge
 
-pub joined-set : (rows : List Operator) (targets : List ℕ) (n k l u v m : ℕ) → u < n → m ≡ including (getD targets u 0) v
-    → record { rows = take n rows; targets = take n (set targets u m); k = k; l = l } ≡ joined (record { rows = take n rows; targets = take n targets; k = k; l = l }) u v
-joined-set rows targets n k l u v m near is =
-    ap (λ (xs : List ℕ). record { rows = take n rows; targets = xs; k = k; l = l })
-    (take-set-lt n targets u m near ∙ ap (λ (x : ℕ). set (take n targets) u x) (is ∙ ap (λ (x : ℕ). including x v) (sym (getD-take n targets u 0 near))))
+pub joined-set : (rows : List Operator) (successors : List ℕ) (n k l u v m : ℕ) → u < n → m ≡ including (getD successors u 0) v
+    → record { rows = take n rows; successors = take n (set successors u m); k = k; l = l } ≡ joined (record { rows = take n rows; successors = take n successors; k = k; l = l }) u v
+joined-set rows successors n k l u v m near is =
+    ap (λ (xs : List ℕ). record { rows = take n rows; successors = xs; k = k; l = l })
+    (take-set-lt n successors u m near ∙ ap (λ (x : ℕ). set (take n successors) u x) (is ∙ ap (λ (x : ℕ). including x v) (sym (getD-take n successors u 0 near))))

@@ -11,15 +11,16 @@ use Rattle.std.specs.Orderings.{Decides}
 use Rattle.std.specs.shelf.Lists.{All, sumBy, kept-by}
 use Rattle.std.proofs.shelf.Sums.{sumBy-cons, sumBy-le}
 use Rattle.std.proofs.shelf.Elements.{all-weaker, all-from-getD}
-use Rattle.sets.specs.Sets.{has, In, members, full, upto, gathered}
-use Rattle.sets.proofs.Sets.{has-full}
+use Rattle.std.proofs.shelf.Tests.{and-parts, and-from, false≢true}
+use Rattle.sets.specs.Sets.{has, In, inside, meeting, members, full, upto, gathered}
+use Rattle.sets.proofs.Sets.{has-full, meeting-means, some-outside, outside-some}
 use Rattle.sets.proofs.Members.{members-few, members-kept, members-gathered, kept-all}
 use Rattle.sheet.specs.declared.operators.Operator.{Operator}
 use Rattle.sheet.specs.declared.operators.Figure.{Figure}
 use Rattle.sheet.specs.declared.operators.Figure.the-variants.{Acc, Cpu, Size, Link}
 use Rattle.sheet.specs.Rules.{most-sum, most-figure, Within, Modest}
-use Rattle.sheet.specs.Nets.{Net, size, row}
-use Rattle.sheet.specs.Figures.{Sums, figure-of, charged}
+use Rattle.sheet.specs.Nets.{Net, size, row, after}
+use Rattle.sheet.specs.Figures.{Sums, figure-of, charged, Charging}
 
 figure-le : (w : Figure) (o : Operator) → Within o → figure-of w o ≤ most-figure
 figure-le Acc o h = h .0
@@ -73,3 +74,21 @@ charged-is n w p set r is sum = sum ∙ ap (sumBy (λ v. figure-of w (row n v)))
 pub same-sums : (m : ℕ) {a a′ b b′ c c′ d d′ e e′ : ℕ} → a ≡ a′ → b ≡ b′ → c ≡ c′ → d ≡ d′ → e ≡ e′
     → _≡_ {A = Sums} (record { mask = m; acc = a; cpu = b; size = c; incoming = d; outgoing = e }) (record { mask = m; acc = a′; cpu = b′; size = c′; incoming = d′; outgoing = e′ })
 same-sums m p q r s t = cc
+
+-- ---- what the tests say of edges
+
+not-in : (b : Bool) → not b ≡ true → b ≡ false
+not-in true e = absurd (false≢true e)
+not-in false e = refl
+
+pub charging : (n : Net) (m : ℕ) → Charging n m
+charging n m u = (
+  (
+    λ e. let p = and-parts (not (has m u)) (meeting (after n u) m) e in (not-in (has m u) (p .0), meeting-means (after n u) m .0 (p .1)),
+    λ h. and-from (not (has m u)) (meeting (after n u) m) (ap not (h .0)) (meeting-means (after n u) m .1 (h .1)),
+  ),
+  (
+    λ e. let p = and-parts (has m u) (not (inside (after n u) m)) e in (p .0, some-outside (after n u) m (not-in (inside (after n u) m) (p .1))),
+    λ h. and-from (has m u) (not (inside (after n u) m)) (h .0) (ap not (outside-some (after n u) m (h .1 .0) (h .1 .1 .0) (h .1 .1 .1))),
+  ),
+)

@@ -35,7 +35,7 @@ abbrev pub add-refusal : Net → Operator → List ℕ
 add-refusal n o = first (unless (ltb (size n) most-operators) (told SheetFull)) (unless (within o) (told AboveLimit))
 
 abbrev pub added : Net → Operator → Net
-added n o = record { rows = n .rows ++ (o ∷ []); targets = n .targets ++ (0 ∷ []); k = n .k; l = n .l }
+added n o = record { rows = n .rows ++ (o ∷ []); successors = n .successors ++ (0 ∷ []); k = n .k; l = n .l }
 
 -- ---- an edge from u to v
 
@@ -45,7 +45,7 @@ join-refusal n u v =
     (first (unless (ltb u v) (told NotUpward)) (unless (not (has (after n u) v)) (told EdgeExists)))
 
 abbrev pub joined : Net → ℕ → ℕ → Net
-joined n u v = record { rows = n .rows; targets = set (n .targets) u (including (after n u) v); k = n .k; l = n .l }
+joined n u v = record { rows = n .rows; successors = set (n .successors) u (including (after n u) v); k = n .k; l = n .l }
 
 -- ---- other figures for operator v
 
@@ -53,7 +53,7 @@ abbrev pub retime-refusal : Net → ℕ → Operator → List ℕ
 retime-refusal n v o = first (unless (ltb v (size n)) (told NoOperator)) (unless (within o) (told AboveLimit))
 
 abbrev pub retimed : Net → ℕ → Operator → Net
-retimed n v o = record { rows = set (n .rows) v o; targets = n .targets; k = n .k; l = n .l }
+retimed n v o = record { rows = set (n .rows) v o; successors = n .successors; k = n .k; l = n .l }
 
 -- ---- other counts of devices
 
@@ -61,4 +61,4 @@ abbrev pub count-refusal : ℕ → ℕ → List ℕ
 count-refusal k l = unless (leb k most-devices && leb l most-devices) (told CountAboveLimit)
 
 abbrev pub counted : Net → ℕ → ℕ → Net
-counted n k l = record { rows = n .rows; targets = n .targets; k = k; l = l }
+counted n k l = record { rows = n .rows; successors = n .successors; k = k; l = l }

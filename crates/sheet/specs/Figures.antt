@@ -2,17 +2,19 @@
 --   figure-of w o       the figure of an operator that w names
 --   feeds n m u         u is outside the set m and has an edge into it
 --   leaves n m u        u is in the set m and has an edge out of it
+--   Feeds, Leaves       the same, as facts about edges
 --   charged n w test    the sum of a figure over the operators that pass a test, each counted once
 --   figures-of n m      the figures of the set m as a stage
-use Prim.Native.Nat.{ℕ, _≤_}
-use mathlib.Core.Bool.{Bool, not, _&&_}
+use Prim.Native.Nat.{ℕ}
+use mathlib.Core.Bool.{Bool, false, not, _&&_}
+use mathlib.Core.Path.{_≡_}
+use Rattle.std.specs.Orderings.{Decides}
 use Rattle.std.specs.shelf.Lists.{kept-by, sumBy}
-use Rattle.sets.specs.Sets.{has, inside, meeting, upto}
+use Rattle.sets.specs.Sets.{has, In, inside, meeting, upto}
 use Rattle.sheet.specs.declared.operators.Operator.{Operator}
 use Rattle.sheet.specs.declared.operators.Figure.{Figure}
 use Rattle.sheet.specs.declared.operators.Figure.the-variants.{Acc, Cpu, Size, Link}
-use Rattle.sheet.specs.Rules.{most-sum}
-use Rattle.sheet.specs.Nets.{Net, size, row, after}
+use Rattle.sheet.specs.Nets.{Net, size, row, after, Edge}
 
 pub record Sums : Type 0 where
   pub mask : ℕ
@@ -33,6 +35,16 @@ feeds n m u = not (has m u) && meeting (after n u) m
 
 abbrev pub leaves : Net → ℕ → ℕ → Bool
 leaves n m u = has m u && not (inside (after n u) m)
+
+abbrev pub Feeds : Net → ℕ → ℕ → Type 0
+Feeds n m u = (has m u ≡ false) × ((v : ℕ) × (Edge n u v × In v m))
+
+abbrev pub Leaves : Net → ℕ → ℕ → Type 0
+Leaves n m u = In u m × ((v : ℕ) × (Edge n u v × (has m v ≡ false)))
+
+-- the tests of feeds and leaves say just that
+abbrev pub Charging : Net → ℕ → Type 0
+Charging n m = (u : ℕ) → Decides (feeds n m u) (Feeds n m u) × Decides (leaves n m u) (Leaves n m u)
 
 abbrev pub charged : Net → Figure → (ℕ → Bool) → ℕ
 charged n w test = sumBy (λ v. figure-of w (row n v)) (kept-by test (upto (size n)))

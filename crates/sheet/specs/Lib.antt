@@ -3,3 +3,4 @@ pub mod Nets
 pub mod Figures
 pub mod Views
 pub mod Changes
+pub mod Kept

@@ -1,5 +1,5 @@
 -- What a sheet says, as plain values.
---   Net          rows of figures, for each operator the set of its edges' targets, and the counts of devices
+--   Net          rows of figures, for each operator the set of its successors, and the counts of devices
 --   size n       how many operators there are; they are numbered from 0
 --   row n v      the row of operator v, blank where there is none
 --   after n u    the set of the operators that u has an edge to
@@ -17,7 +17,7 @@ use Rattle.sheet.specs.Rules.{blank}
 
 pub record Net : Type 0 where
   pub rows : List Operator
-  pub targets : List ℕ
+  pub successors : List ℕ
   pub k : ℕ
   pub l : ℕ
 
@@ -28,7 +28,7 @@ abbrev pub row : Net → ℕ → Operator
 row n v = getD (n .rows) v blank
 
 abbrev pub after : Net → ℕ → ℕ
-after n u = getD (n .targets) u 0
+after n u = getD (n .successors) u 0
 
 abbrev pub Edge : Net → ℕ → ℕ → Type 0
 Edge n u v = In v (after n u)
@@ -40,4 +40,4 @@ abbrev pub edges-of : Net → ℕ
 edges-of n = sumBy (λ u. length (members (after n u))) (upto (size n))
 
 abbrev pub empty : Net
-empty = record { rows = []; targets = []; k = 0; l = 0 }
+empty = record { rows = []; successors = []; k = 0; l = 0 }

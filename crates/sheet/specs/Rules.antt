@@ -1,8 +1,8 @@
 -- The limits of a sheet, and the rules that each sheet keeps.
---   blank            the row of no operator: each figure 0
---   Within o         each of the four figures of o is within its limit
---   Modest rows      each row is within the limits
---   Upward targets   each edge leads to an operator of a higher number; target v of operator u is a bit of the mask at u
+--   blank               the row of no operator: each figure 0
+--   Within o            each of the four figures of o is within its limit
+--   Modest rows         each row is within the limits
+--   Upward successors   each edge leads to an operator of a higher number; the mask at u is the set of the operators that u has an edge to
 use Prim.Native.Nat.{ℕ, _≤_, _<_}
 use mathlib.Core.List.{List}
 use lib.ListN.{length, getD}
@@ -32,4 +32,4 @@ abbrev pub Modest : List Operator → Type 0
 Modest rows = (v : ℕ) → Within (getD rows v blank)
 
 abbrev pub Upward : List ℕ → Type 0
-Upward targets = (u v : ℕ) → In v (getD targets u 0) → (u < v) × (v < length targets)
+Upward successors = (u v : ℕ) → In v (getD successors u 0) → (u < v) × (v < length successors)

@@ -43,7 +43,7 @@ impl Sheet {
         Sheet {
             operators: 0,
             rows: [BLANK; 64],
-            targets: [0; 64],
+            successors: [0; 64],
             k: 0,
             l: 0,
         }
@@ -63,7 +63,7 @@ impl Sheet {
             return Err(Refusal::AboveLimit);
         }
         self.rows[v] = operator;
-        self.targets[v] = 0;
+        self.successors[v] = 0;
         self.operators = v + 1;
         Ok(v)
     }
@@ -79,11 +79,11 @@ impl Sheet {
         if from >= to {
             return Err(Refusal::NotUpward);
         }
-        let targets = self.targets[from];
-        if sets::holds(targets, to) {
+        let successors = self.successors[from];
+        if sets::holds(successors, to) {
             return Err(Refusal::EdgeExists);
         }
-        self.targets[from] = sets::include(targets, to);
+        self.successors[from] = sets::include(successors, to);
         Ok(())
     }
 

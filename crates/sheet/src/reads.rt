@@ -6,14 +6,16 @@ ghost use Rattle.std.specs.Options.{Cases};
 ghost use Rattle.std.specs.shelf.Lists.{sumBy};
 ghost use Rattle.sets.specs.Sets.{full, members, upto};
 ghost use Rattle.sheet.specs.Nets.{size, row, after, before, edges-of};
+ghost use Rattle.sheet.specs.Kept.{Kept};
 ghost use Rattle.sheet.specs.Views.{net};
 use super::Operator;
 use super::Sheet;
 
 impl Sheet {
-    // How many operators there are.
+    // How many operators there are. Every sheet keeps the rules.
     pub fn operators(&self) -> usize
-        ensures { λ r. ⌜ r ≡ size (net (now (self .entry))) ⌝ }
+        ensures value { λ r. ⌜ r ≡ size (net (now (self .entry))) ⌝ }
+        ensures keeps { λ _. ⌜ Kept (net (now (self .entry))) ⌝ }
     {
         self.operators
     }
@@ -40,7 +42,7 @@ impl Sheet {
         ensures { λ r. ⌜ r ≡ after (net (now (self .entry))) v ⌝ }
     {
         if v < self.operators {
-            self.targets[v]
+            self.successors[v]
         } else {
             0
         }

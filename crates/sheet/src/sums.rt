@@ -5,7 +5,7 @@ ghost use Rattle.std.specs.shelf.Lists.{All, sumBy};
 ghost use Rattle.sets.specs.Sets.{gathered, members};
 ghost use Rattle.sheet.specs.Rules.{most-sum};
 ghost use Rattle.sheet.specs.Nets.{size, row};
-ghost use Rattle.sheet.specs.Figures.{figure-of, feeds, leaves, figures-of};
+ghost use Rattle.sheet.specs.Figures.{figure-of, feeds, leaves, figures-of, Charging};
 ghost use Rattle.sheet.specs.Views.{net, sums};
 use super::Figure;
 use super::Operator;
@@ -81,7 +81,8 @@ impl Sheet {
 
     // The figures of a set of operators as a stage. Bits that stand for no operator add nothing.
     pub fn figures(&self, mask: u64) -> StageFigures
-        ensures { λ r. ⌜ sums r ≡ figures-of (net (now (self .entry))) mask ⌝ }
+        ensures value { λ r. ⌜ sums r ≡ figures-of (net (now (self .entry))) mask ⌝ }
+        ensures means { λ _. ⌜ Charging (net (now (self .entry))) mask ⌝ }
     {
         let inside = sets::intersection(mask, self.all());
         StageFigures {

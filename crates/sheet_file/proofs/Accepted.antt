@@ -92,7 +92,7 @@ module _ (f : List ℕ) (head : RightHead f) (bodies : RightBodies (body f 0) (b
       before-same _ _ _ _ _ _ _ _ (from-same i l) (to-same i l) (from-same (suc i) h) (to-same (suc i) h)
       (ascends-before (body f 1) i (right-pair (suc i) h .ascending))
 
-  laid-upward : Upward (net-of f .targets)
+  laid-upward : Upward (net-of f .successors)
   laid-upward u v e =
       let x = found u v e in
       let r = right-pair (x .0) (x .1) in

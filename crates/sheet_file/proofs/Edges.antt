@@ -1,5 +1,5 @@
 -- What the rows and the edges of a body make of a sheet.
---   Inside bs i n   the first i edges of a body begin at operators that n has a set of targets for
+--   Inside bs i n   the first i edges of a body begin at operators that n has a set of successors for
 use Prim.Native.Nat.{ℕ, zero, suc, _+_, _-_, _*_, _<_}
 use mathlib.Core.Bool.{Bool, _&&_, _||_}
 use mathlib.Core.List.{List, [], _∷_, _++_}
@@ -51,16 +51,16 @@ with-rows-new bs (suc v) n w h = elim (cases-eq w v) [
       ∙ with-rows-new bs v n w (omega arith)
 ]
 
-pub with-rows-targets : (bs : List ℕ) (v : ℕ) (n : Net) → with-rows bs v n .targets ≡ n .targets ++ replicate v 0
+pub with-rows-successors : (bs : List ℕ) (v : ℕ) (n : Net) → with-rows bs v n .successors ≡ n .successors ++ replicate v 0
 unfolding with-rows
-with-rows-targets bs zero n = sym (append-nil (n .targets))
-with-rows-targets bs (suc v) n =
-    ap (λ (ts : List ℕ). ts ++ (0 ∷ [])) (with-rows-targets bs v n) ∙ append-assoc (n .targets) (replicate v 0) (0 ∷ [])
-    ∙ ap (λ (ts : List ℕ). n .targets ++ ts) (replicate-more v 0 ∙ ap (λ (k : ℕ). replicate k 0) (add-one v))
+with-rows-successors bs zero n = sym (append-nil (n .successors))
+with-rows-successors bs (suc v) n =
+    ap (λ (ts : List ℕ). ts ++ (0 ∷ [])) (with-rows-successors bs v n) ∙ append-assoc (n .successors) (replicate v 0) (0 ∷ [])
+    ∙ ap (λ (ts : List ℕ). n .successors ++ ts) (replicate-more v 0 ∙ ap (λ (k : ℕ). replicate k 0) (add-one v))
 
-pub with-rows-masks : (bs : List ℕ) (v : ℕ) (n : Net) → length (n .targets) ≡ size n → length (with-rows bs v n .targets) ≡ size (with-rows bs v n)
+pub with-rows-masks : (bs : List ℕ) (v : ℕ) (n : Net) → length (n .successors) ≡ size n → length (with-rows bs v n .successors) ≡ size (with-rows bs v n)
 with-rows-masks bs v n e =
-    ap length (with-rows-targets bs v n) ∙ length-append (n .targets) (replicate v 0)
+    ap length (with-rows-successors bs v n) ∙ length-append (n .successors) (replicate v 0)
     ∙ omega (arith, length-replicate {A = ℕ} v 0, with-rows-size bs v n)
 
 pub with-rows-counts : (bs : List ℕ) (v : ℕ) (n : Net) → (with-rows bs v n .k ≡ n .k) × (with-rows bs v n .l ≡ n .l)
@@ -70,11 +70,11 @@ with-rows-counts bs (suc v) n = with-rows-counts bs v n
 
 -- no edge comes with them
 pub with-rows-after : (bs : List ℕ) (v : ℕ) (n : Net) (u : ℕ) → after (with-rows bs v n) u ≡ after n u
-with-rows-after bs v n u = ap (λ (ts : List ℕ). getD ts u 0) (with-rows-targets bs v n) ∙ elim (cases-lt u (length (n .targets))) [
-  | inl h ↦ getD-append-left (n .targets) (replicate v 0) 0 u h
+with-rows-after bs v n u = ap (λ (ts : List ℕ). getD ts u 0) (with-rows-successors bs v n) ∙ elim (cases-lt u (length (n .successors))) [
+  | inl h ↦ getD-append-left (n .successors) (replicate v 0) 0 u h
   | inr h ↦
-      getD-append-right (n .targets) (replicate v 0) (length (n .targets)) u 0 refl h
-      ∙ zeros v (u - length (n .targets)) ∙ sym (getD-past (n .targets) u 0 h)
+      getD-append-right (n .successors) (replicate v 0) (length (n .successors)) u 0 refl h
+      ∙ zeros v (u - length (n .successors)) ∙ sym (getD-past (n .successors) u 0 h)
 ]
   where
     zeros : (v i : ℕ) → _≡_ {A = ℕ} (getD (replicate v 0) i 0) 0
@@ -86,16 +86,16 @@ with-rows-after bs v n u = ap (λ (ts : List ℕ). getD ts u 0) (with-rows-targe
 -- ---- one edge
 
 -- an edge was there or is the new one
-pub joined-after : (n : Net) (u v p q : ℕ) → u < length (n .targets) → has (after (joined n u v) p) q ≡ (has (after n p) q || (eqb p u && eqb q v))
+pub joined-after : (n : Net) (u v p q : ℕ) → u < length (n .successors) → has (after (joined n u v) p) q ≡ (has (after n p) q || (eqb p u && eqb q v))
 joined-after n u v p q h = elim (cases-eq p u) [
   | inl e ↦
       let here : after (joined n u v) p ≡ including (after n p) v =
-      ap (λ (x : ℕ). getD (set (n .targets) u (including (after n u) v)) x 0) e
-      ∙ getD-set-same (n .targets) u (including (after n u) v) 0 h ∙ ap (λ (x : ℕ). including (after n x) v) (sym e) in
+      ap (λ (x : ℕ). getD (set (n .successors) u (including (after n u) v)) x 0) e
+      ∙ getD-set-same (n .successors) u (including (after n u) v) 0 h ∙ ap (λ (x : ℕ). including (after n x) v) (sym e) in
       ap (λ (m : ℕ). has m q) here ∙ has-including (after n p) v q
       ∙ ap (λ (b : Bool). has (after n p) q || (b && eqb q v)) (sym (eq-eqb p u e))
   | inr e ↦
-      ap (λ (m : ℕ). has m q) (getD-set-other (n .targets) u p (including (after n u) v) 0 e)
+      ap (λ (m : ℕ). has m q) (getD-set-other (n .successors) u p (including (after n u) v) 0 e)
       ∙ sym (ap (λ (b : Bool). has (after n p) q || (b && eqb q v)) (ne-eqb p u e) ∙ or-false (has (after n p) q))
 ]
 
@@ -118,19 +118,19 @@ unfolding with-edges
 with-edges-counts bs zero n = (refl, refl)
 with-edges-counts bs (suc i) n = with-edges-counts bs i n
 
-pub with-edges-masks : (bs : List ℕ) (i : ℕ) (n : Net) → length (with-edges bs i n .targets) ≡ length (n .targets)
+pub with-edges-masks : (bs : List ℕ) (i : ℕ) (n : Net) → length (with-edges bs i n .successors) ≡ length (n .successors)
 unfolding with-edges
 with-edges-masks bs zero n = refl
 with-edges-masks bs (suc i) n =
-    length-set (with-edges bs i n .targets) (from bs i) (including (after (with-edges bs i n) (from bs i)) (to bs i)) ∙ with-edges-masks bs i n
+    length-set (with-edges bs i n .successors) (from bs i) (including (after (with-edges bs i n) (from bs i)) (to bs i)) ∙ with-edges-masks bs i n
 
 -- one edge more
-pub with-edges-step : (bs : List ℕ) (i : ℕ) (n : Net) → from bs i < length (n .targets) → (u v : ℕ) → has (after (with-edges bs (suc i) n) u) v ≡ (has (after (with-edges bs i n) u) v || (eqb u (from bs i) && eqb v (to bs i)))
+pub with-edges-step : (bs : List ℕ) (i : ℕ) (n : Net) → from bs i < length (n .successors) → (u v : ℕ) → has (after (with-edges bs (suc i) n) u) v ≡ (has (after (with-edges bs i n) u) v || (eqb u (from bs i) && eqb v (to bs i)))
 unfolding with-edges
 with-edges-step bs i n h u v = joined-after (with-edges bs i n) (from bs i) (to bs i) u v (omega (arith, with-edges-masks bs i n))
 
 abbrev pub Inside : List ℕ → ℕ → Net → Type 0
-Inside bs i n = (j : ℕ) → j < i → from bs j < length (n .targets)
+Inside bs i n = (j : ℕ) → j < i → from bs j < length (n .successors)
 
 fewer : (bs : List ℕ) (i : ℕ) (n : Net) → Inside bs (suc i) n → Inside bs i n
 fewer bs i n h j l = h j (omega arith)

@@ -27,14 +27,14 @@ module _ (operators edges counts : List ℕ) where
       ap (λ (rows : List Operator). getD rows v blank) (with-edges-rows edges (edges-in edges) bare)
       ∙ ap (row bare) place ∙ with-rows-new operators (rows-in operators) empty v h
 
-  bare-masks : length (bare .targets) ≡ rows-in operators
+  bare-masks : length (bare .successors) ≡ rows-in operators
   bare-masks = with-rows-masks operators (rows-in operators) empty refl ∙ with-rows-size operators (rows-in operators) empty ∙ omega arith
 
-  pub net-masks : length (net-of-bodies operators edges counts .targets) ≡ rows-in operators
+  pub net-masks : length (net-of-bodies operators edges counts .successors) ≡ rows-in operators
   net-masks = with-edges-masks edges (edges-in edges) bare ∙ bare-masks
 
   module _ (among : (i : ℕ) → i < edges-in edges → from edges i < rows-in operators) where
-    inside : (i : ℕ) → i < edges-in edges → from edges i < length (bare .targets)
+    inside : (i : ℕ) → i < edges-in edges → from edges i < length (bare .successors)
     inside i h = omega (arith, among i h, bare-masks)
 
     pub net-listed : (i : ℕ) → i < edges-in edges → Edge (net-of-bodies operators edges counts) (from edges i) (to edges i)

@@ -21,7 +21,7 @@ use Rattle.sets.proofs.Members.{members-all}
 use Rattle.sheet.specs.Nets.{Net, size, after, Edge}
 use Rattle.sheet_file.specs.Layout.{Before}
 use Rattle.sheet_file.specs.Written.{pair-bytes, pairs-from, edges-bytes}
-use Rattle.sheet_file.specs.Kept.{Kept}
+use Rattle.sheet.specs.Kept.{Kept}
 use Rattle.sheet_file.proofs.Rising.{Rising, rising-append, rising-kept, rising-map, rising-next, all-upto, rising-upto, has-kept, kept-few, joined-none, joined-upto, all-joined, has-joined, has-map}
 
 abbrev pub two : ℕ × ℕ → List ℕ
@@ -127,15 +127,15 @@ pairs-listed n i h =
     all-getD Is (edge-list n) i (0, 0) h (all-below n Is (size n) (λ u v l e. e))
 
 -- an edge leads from an operator
-edge-below : (n : Net) (u v : ℕ) → Edge n u v → u < length (n .targets)
-edge-below n u v e = elim (cases-lt u (length (n .targets))) [
+edge-below : (n : Net) (u v : ℕ) → Edge n u v → u < length (n .successors)
+edge-below n u v e = elim (cases-lt u (length (n .successors))) [
   | inl l ↦ l
-  | inr l ↦ absurd (both-ways (has (after n u) v) (ap (λ (m : ℕ). has m v) (getD-past (n .targets) u 0 l) ∙ has-none v) e)
+  | inr l ↦ absurd (both-ways (has (after n u) v) (ap (λ (m : ℕ). has m v) (getD-past (n .successors) u 0 l) ∙ has-none v) e)
 ]
 
 pub pairs-complete : (n : Net) → Kept n → (u v : ℕ) → Edge n u v → Has (edge-list n) (u, v)
 pairs-complete n kept u v e =
-    let from : u < length (n .targets) = edge-below n u v e in
+    let from : u < length (n .successors) = edge-below n u v e in
     let to = kept .upward u v e in
     has-joined (edges-from n) (size n) u (u, v) (omega arith)
     (has-map (λ w. (u, w)) (members (after n u)) v (has-kept (has (after n u)) 64 v (omega arith) e))

@@ -35,21 +35,21 @@ same-after f m n a b u = same-sets (after m u) (after n u) (λ v. elim (cases-bo
 ])
 
 abbrev with-parts : List Operator → List ℕ → ℕ → ℕ → Net
-with-parts rows targets k l = record { rows = rows; targets = targets; k = k; l = l }
+with-parts rows successors k l = record { rows = rows; successors = successors; k = k; l = l }
 
 -- sheets with the same parts are the same
-pub same-nets : (m n : Net) → m .rows ≡ n .rows → m .targets ≡ n .targets → m .k ≡ n .k → m .l ≡ n .l → m ≡ n
-same-nets m n rows targets k l =
-    ap (λ (x : List Operator). with-parts x (m .targets) (m .k) (m .l)) rows
-    ∙ ap (λ (x : List ℕ). with-parts (n .rows) x (m .k) (m .l)) targets
-    ∙ ap (λ (x : ℕ). with-parts (n .rows) (n .targets) x (m .l)) k
-    ∙ ap (λ (x : ℕ). with-parts (n .rows) (n .targets) (n .k) x) l
+pub same-nets : (m n : Net) → m .rows ≡ n .rows → m .successors ≡ n .successors → m .k ≡ n .k → m .l ≡ n .l → m ≡ n
+same-nets m n rows successors k l =
+    ap (λ (x : List Operator). with-parts x (m .successors) (m .k) (m .l)) rows
+    ∙ ap (λ (x : List ℕ). with-parts (n .rows) x (m .k) (m .l)) successors
+    ∙ ap (λ (x : ℕ). with-parts (n .rows) (n .successors) x (m .l)) k
+    ∙ ap (λ (x : ℕ). with-parts (n .rows) (n .successors) (n .k) x) l
 
 pub laid-out-unique : (f : List ℕ) (m n : Net) → LaidOut f m → LaidOut f n → m ≡ n
 laid-out-unique f m n a b =
     let s = same-size f m n a b in
     let rows : m .rows ≡ n .rows = ext-getD blank (m .rows) (n .rows) s (λ v h. sym (a .rows v h) ∙ b .rows v (omega arith)) in
-    let targets : m .targets ≡ n .targets = ext-getD 0 (m .targets) (n .targets) (a .masks ∙ s ∙ sym (b .masks)) (λ u h. same-after f m n a b u) in
+    let successors : m .successors ≡ n .successors = ext-getD 0 (m .successors) (n .successors) (a .masks ∙ s ∙ sym (b .masks)) (λ u h. same-after f m n a b u) in
     let k : m .k ≡ n .k = sym (a .counts .0) ∙ ap (λ (z : ℕ). getD f (edges-at z + 2 * pairs f) 0) s ∙ b .counts .0 in
     let l : m .l ≡ n .l = sym (a .counts .1) ∙ ap (λ (z : ℕ). getD f (edges-at z + 2 * pairs f + 1) 0) s ∙ b .counts .1 in
-    same-nets m n rows targets k l
+    same-nets m n rows successors k l

@@ -19,7 +19,7 @@ use Rattle.sheet_file.specs.Bodies.{row-at}
 use Rattle.sheet_file.specs.Contents.{length-of}
 use Rattle.sheet_file.specs.Layout.{LaidOut, Before, pairs, edges-at, edge-from, edge-to}
 use Rattle.sheet_file.specs.Written.{row-bytes, rows-bytes, edges-bytes, head-bytes, file-of}
-use Rattle.sheet_file.specs.Kept.{Kept}
+use Rattle.sheet.specs.Kept.{Kept}
 use Rattle.sheet_file.proofs.Pairs.{two, edge-list, BeforePair, from-two, to-two, bytes-are-pairs, length-edges-bytes, pairs-ascend, pairs-listed, pairs-complete, edges-short}
 
 -- ---- what is read past a front

@@ -46,11 +46,11 @@ pub record LaidOut (f : List ℕ) (n : Net) : Type 0 where
   pub modest : Modest (n .rows)
   -- section 2, the edges
   pub short : 2 * pairs f ≤ 4032
-  pub masks : length (n .targets) ≡ size n
+  pub masks : length (n .successors) ≡ size n
   pub listed : (i : ℕ) → i < pairs f → Edge n (edge-from f (size n) i) (edge-to f (size n) i)
   pub complete : (u v : ℕ) → Edge n u v → (i : ℕ) × (i < pairs f) × (edge-from f (size n) i ≡ u) × (edge-to f (size n) i ≡ v)
   pub ascending : (i : ℕ) → suc i < pairs f → Before (edge-from f (size n) i) (edge-to f (size n) i) (edge-from f (size n) (suc i)) (edge-to f (size n) (suc i))
-  pub upward : Upward (n .targets)
+  pub upward : Upward (n .successors)
   -- section 3, the counts
   pub counts : (getD f (edges-at (size n) + 2 * pairs f) 0 ≡ n .k) × (getD f (edges-at (size n) + 2 * pairs f + 1) 0 ≡ n .l)
   pub devices : (n .k ≤ most-devices) × (n .l ≤ most-devices)

@@ -2,4 +2,3 @@ pub mod Contents
 pub mod Bodies
 pub mod Layout
 pub mod Written
-pub mod Kept

@@ -26,18 +26,18 @@ ghost-self c =
     let s = c .args .self .now in
     let n = s .operators in
     let room : n < length (s .rows) = omega arith in
-    let masks : n < length (s .targets) = omega arith in
-    (omega arith, ((search needs, search needs), (modest-more (s .rows) n (c .args .operator) room (s .modest) (sym (c .if-not-is-within .ensures tt)), (upward-more (s .targets) n masks (s .upward), (s .devices, tt)))))
+    let masks : n < length (s .successors) = omega arith in
+    (omega arith, ((search needs, search needs), (modest-more (s .rows) n (c .args .operator) room (s .modest) (sym (c .if-not-is-within .ensures tt)), (upward-more (s .successors) n masks (s .upward), (s .devices, tt)))))
 
 pub returns : need.returns
 returns c =
     let s = c .args .self .now in
     let n = s .operators in
     let room : n < length (s .rows) = omega arith in
-    let masks : n < length (s .targets) = omega arith in
+    let masks : n < length (s .successors) = omega arith in
     let front : size (net s) ≡ n = length-take-le n (s .rows) (omega arith) in
     record {
       refuses = add-granted (net s) (c .args .operator) (omega (arith, front)) (sym (c .if-not-is-within .ensures tt));
       value = sym front;
-      changes = added-more (s .rows) (s .targets) n (s .k) (s .l) (c .args .operator) room masks;
+      changes = added-more (s .rows) (s .successors) n (s .k) (s .l) (c .args .operator) room masks;
     }

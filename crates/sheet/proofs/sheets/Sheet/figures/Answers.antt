@@ -10,7 +10,7 @@ use Rattle.sheet.specs.declared.operators.Figure.the-variants.{Acc, Cpu, Size,
 use Rattle.sheet.specs.Nets.{size}
 use Rattle.sheet.specs.Figures.{Sums, feeds, leaves}
 use Rattle.sheet.specs.Views.{net}
-use Rattle.sheet.proofs.Charges.{members-inside, members-tested, kept-below, charged-is, same-sums}
+use Rattle.sheet.proofs.Charges.{members-inside, members-tested, kept-below, charged-is, same-sums, charging}
 use Rattle.sheet.proofs.sheets.Sheet.figures.Needs as need
 
 module _ (s : Sheet) where
@@ -67,9 +67,12 @@ returns c =
     let inside = inside-is s m (c .all .result) set (c .all .ensures) (c .intersection-inside .ensures) in
     let entering = tested-is s (feeds (net s) m) (c .feeding .result) (c .feeding .ensures) in
     let leaving = tested-is s (leaves (net s) m) (c .leaving .result) (c .leaving .ensures) in
-    same-sums m
-    (charged-is (net s) Acc (has m) set (c .sum .result) inside (c .sum .ensures .value))
-    (charged-is (net s) Cpu (has m) set (c .sum-2 .result) inside (c .sum-2 .ensures .value))
-    (charged-is (net s) Size (has m) set (c .sum-3 .result) inside (c .sum-3 .ensures .value))
-    (charged-is (net s) Link (feeds (net s) m) (c .feeding .result) (c .sum-4 .result) entering (c .sum-4 .ensures .value))
-    (charged-is (net s) Link (leaves (net s) m) (c .leaving .result) (c .sum-5 .result) leaving (c .sum-5 .ensures .value))
+    record {
+      value = same-sums m
+          (charged-is (net s) Acc (has m) set (c .sum .result) inside (c .sum .ensures .value))
+          (charged-is (net s) Cpu (has m) set (c .sum-2 .result) inside (c .sum-2 .ensures .value))
+          (charged-is (net s) Size (has m) set (c .sum-3 .result) inside (c .sum-3 .ensures .value))
+          (charged-is (net s) Link (feeds (net s) m) (c .feeding .result) (c .sum-4 .result) entering (c .sum-4 .ensures .value))
+          (charged-is (net s) Link (leaves (net s) m) (c .leaving .result) (c .sum-5 .result) leaving (c .sum-5 .ensures .value));
+      means = charging (net s) m;
+    }

@@ -22,5 +22,5 @@ returns c =
     let front : size (net s) ≡ s .operators = length-take-le (s .operators) (s .rows) (omega arith) in
     record {
       refuses = retime-granted (net s) (c .args .v) (c .args .figures .now) (omega (arith, front)) (sym (c .if-not-is-within .ensures tt));
-      changes = ap (λ (xs : List Operator). record { rows = xs; targets = net s .targets; k = s .k; l = s .l }) (take-set-lt (s .operators) (s .rows) (c .args .v) (c .args .figures .now) (omega arith));
+      changes = ap (λ (xs : List Operator). record { rows = xs; successors = net s .successors; k = s .k; l = s .l }) (take-set-lt (s .operators) (s .rows) (c .args .v) (c .args .figures .now) (omega arith));
     }
