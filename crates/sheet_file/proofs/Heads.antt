@@ -13,7 +13,8 @@ use Rattle.std.proofs.shelf.Tests.{eqb-true, eq-eqb, leb-true, le-leb, and-part
 use Rattle.refusals.specs.declared.Refusal.the-variants.{NotASheetFile, ContentsEntry}
 use Rattle.refusals.specs.Told.{told}
 use Rattle.sheet.specs.Changes.{unless}
-use Rattle.sheet_file.specs.Contents.{letters, section-of, offset-of, length-of, Due, dues, start, begins, ends-well, entry-right, head-refusal, entries-refusal, contents-refusal}
+use Rattle.sheet_file.specs.Contents.{letters, section-of, offset-of, length-of, operators-due, edges-due, counts-due, dues, start, begins, ends-well, entry-right, head-refusal, entries-refusal, contents-refusal}
+use Rattle.sheet_file.specs.declared.contents.Due.{Due}
 use Rattle.sheet_file.proofs.Firsts.{unless-nothing, first-nothing}
 
 -- ---- the letters
@@ -50,9 +51,9 @@ pub record RightEntry (f : List ℕ) (i : ℕ) (d : Due) : Type 0 where
   pub least : d .least ≤ length-of f i
   pub most : length-of f i ≤ d .most
 
-module _ (f : List ℕ) (i : ℕ) (d : Due) (ds : List Due) where
+module _ (f : List ℕ) (i : ℕ) (d : Due) where
   abbrev ends-test : Bool
-  ends-test = ends-well f (start f i + length-of f i) ds
+  ends-test = ends-well (length f) (start f i + length-of f i) (d .last)
 
   abbrev most-test : Bool
   most-test = leb (length-of f i) (d .most) && ends-test
@@ -66,7 +67,7 @@ module _ (f : List ℕ) (i : ℕ) (d : Due) (ds : List Due) where
   abbrev offset-test : Bool
   offset-test = eqb (offset-of f i) (start f i) && whole-test
 
-  pub entry-facts : entry-right f i d ds ≡ true → RightEntry f i d × (ends-well f (start f i + length-of f i) ds ≡ true)
+  pub entry-facts : entry-right f i d ≡ true → RightEntry f i d × (ends-well (length f) (start f i + length-of f i) (d .last) ≡ true)
   entry-facts e =
       let p = and-parts (eqb (section-of f i) (d .section)) offset-test e in
       let q = and-parts (eqb (offset-of f i) (start f i)) whole-test (p .1) in
@@ -83,7 +84,7 @@ module _ (f : List ℕ) (i : ℕ) (d : Due) (ds : List Due) where
         t .1,
       )
 
-  pub facts-entry : RightEntry f i d → ends-well f (start f i + length-of f i) ds ≡ true → entry-right f i d ds ≡ true
+  pub facts-entry : RightEntry f i d → ends-well (length f) (start f i + length-of f i) (d .last) ≡ true → entry-right f i d ≡ true
   facts-entry r e =
       and-from (eqb (section-of f i) (d .section)) offset-test (eq-eqb (section-of f i) (d .section) (r .section))
       (and-from (eqb (offset-of f i) (start f i)) whole-test (eq-eqb (offset-of f i) (start f i) (r .offset))
@@ -92,15 +93,6 @@ module _ (f : List ℕ) (i : ℕ) (d : Due) (ds : List Due) where
       (and-from (leb (length-of f i) (d .most)) ends-test (le-leb (length-of f i) (d .most) (r .most)) e))))
 
 -- ---- the head and its three entries
-
-abbrev pub operators-due : Due
-operators-due = record { section = 1; unit = 16; least = 0; most = 1024 }
-
-abbrev pub edges-due : Due
-edges-due = record { section = 2; unit = 2; least = 0; most = 4032 }
-
-abbrev pub counts-due : Due
-counts-due = record { section = 3; unit = 2; least = 2; most = 2 }
 
 pub record RightHead (f : List ℕ) : Type 0 where
   pub long : 20 ≤ length f
@@ -118,16 +110,16 @@ contents-right f h =
     let a = and-parts (leb 20 (length f)) (begins f && eqb (getD f 4 0) 3) head in
     let b = and-parts (begins f) (eqb (getD f 4 0) 3) (a .1) in
     let long = leb-true 20 (length f) (a .0) in
-    let one = first-nothing (unless (entry-right f 0 operators-due (edges-due ∷ counts-due ∷ [])) (told (ContentsEntry 0))) (entries-refusal f 1 (edges-due ∷ counts-due ∷ [])) (parts .1) in
-    let two = first-nothing (unless (entry-right f 1 edges-due (counts-due ∷ [])) (told (ContentsEntry 1))) (entries-refusal f 2 (counts-due ∷ [])) (one .1) in
-    let three = first-nothing (unless (entry-right f 2 counts-due []) (told (ContentsEntry 2))) [] (two .1) in
-    let last = entry-facts f 2 counts-due [] (unless-nothing (entry-right f 2 counts-due []) (ContentsEntry 2) (three .0)) in
+    let one = first-nothing (unless (entry-right f 0 operators-due) (told (ContentsEntry 0))) (entries-refusal f 1 (edges-due ∷ counts-due ∷ [])) (parts .1) in
+    let two = first-nothing (unless (entry-right f 1 edges-due) (told (ContentsEntry 1))) (entries-refusal f 2 (counts-due ∷ [])) (one .1) in
+    let three = first-nothing (unless (entry-right f 2 counts-due) (told (ContentsEntry 2))) [] (two .1) in
+    let last = entry-facts f 2 counts-due (unless-nothing (entry-right f 2 counts-due) (ContentsEntry 2) (three .0)) in
     record {
       long = long;
       begins = begins-letters f (omega arith) (b .0);
       entries = eqb-true (getD f 4 0) 3 (b .1);
-      operators = entry-facts f 0 operators-due (edges-due ∷ counts-due ∷ []) (unless-nothing (entry-right f 0 operators-due (edges-due ∷ counts-due ∷ [])) (ContentsEntry 0) (one .0)) .0;
-      edges = entry-facts f 1 edges-due (counts-due ∷ []) (unless-nothing (entry-right f 1 edges-due (counts-due ∷ [])) (ContentsEntry 1) (two .0)) .0;
+      operators = entry-facts f 0 operators-due (unless-nothing (entry-right f 0 operators-due) (ContentsEntry 0) (one .0)) .0;
+      edges = entry-facts f 1 edges-due (unless-nothing (entry-right f 1 edges-due) (ContentsEntry 1) (two .0)) .0;
       counts = last .0;
       ends = eqb-true (start f 2 + length-of f 2) (length f) (last .1);
     }
@@ -137,7 +129,7 @@ right-contents f r =
     let ends = r .ends in
     let all : begins f && eqb (getD f 4 0) 3 ≡ true = and-from (begins f) (eqb (getD f 4 0) 3) (letters-begins f (r .begins)) (eq-eqb (getD f 4 0) 3 (r .entries)) in
     let head = and-from (leb 20 (length f)) (begins f && eqb (getD f 4 0) 3) (le-leb 20 (length f) (r .long)) all in
-    let one = facts-entry f 0 operators-due (edges-due ∷ counts-due ∷ []) (r .operators) (le-leb (start f 0 + length-of f 0) (length f) (omega arith)) in
-    let two = facts-entry f 1 edges-due (counts-due ∷ []) (r .edges) (le-leb (start f 1 + length-of f 1) (length f) (omega arith)) in
-    let three = facts-entry f 2 counts-due [] (r .counts) (eq-eqb (start f 2 + length-of f 2) (length f) ends) in
+    let one = facts-entry f 0 operators-due (r .operators) (le-leb (start f 0 + length-of f 0) (length f) (omega arith)) in
+    let two = facts-entry f 1 edges-due (r .edges) (le-leb (start f 1 + length-of f 1) (length f) (omega arith)) in
+    let three = facts-entry f 2 counts-due (r .counts) (eq-eqb (start f 2 + length-of f 2) (length f) ends) in
     rw (head, one, two, three) refl

@@ -6,6 +6,7 @@ pub mod Places
 pub mod Nets
 pub mod Accepted
 pub mod Unique
+pub mod Opened
 pub mod Rising
 pub mod Pairs
 pub mod Written
