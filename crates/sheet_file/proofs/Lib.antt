@@ -7,6 +7,8 @@ pub mod Nets
 pub mod Accepted
 pub mod Unique
 pub mod Opened
+pub mod Loading
+pub mod Building
 pub mod Rising
 pub mod Pairs
 pub mod Written

@@ -3,3 +3,5 @@ pub mod Bodies
 pub mod Layout
 pub mod Written
 pub mod Opened
+pub mod Loading
+pub mod Reads
