@@ -243,7 +243,7 @@ gathered-none p = refl
 
 -- `r` is what `include` answers
 pub gathered-yes : (p : ℕ → Bool) (n m r : ℕ) → n < 64 → m ≡ gathered p n → p n ≡ true → r ≡ cond (ltb n 64) (including m n) m → r ≡ gathered p (n + 1)
-unfolding gathered including
+unfolding gathered
 gathered-yes p n m r near before passes is =
     let next : n + 1 ≡ suc n = omega arith in
     is ∙ ap (λ (b : Bool). cond b (bitOr m (2 ^ n)) m) (lt-ltb n 64 near) ∙ ap (λ (x : ℕ). bitOr x (2 ^ n)) before ∙ or-above (gathered p n) n (gathered-lt p n)

@@ -182,7 +182,6 @@ has-single (suc v) (suc u) =
 -- ---- the tests
 
 pub inside-means : (s t : ℕ) → Decides (inside s t) ((v : ℕ) → In v s → In v t)
-unfolding inside
 inside-means s t = (
   λ e v h. and-parts (has s v) (has t v) (sym (has-and s t v) ∙ ap (λ (m : ℕ). has m v) (eqb-true (bitAnd s t) s e) ∙ h) .1,
   λ all. eq-eqb (bitAnd s t) s (same-sets (bitAnd s t) s (λ v. has-and s t v ∙ kept s t v (has s v) refl (all v))),
@@ -194,7 +193,6 @@ inside-means s t = (
 
 -- where one set is not inside another, some operator is in the one and not in the other
 pub some-outside : (s t : ℕ) → inside s t ≡ false → (v : ℕ) × (In v s × (has t v ≡ false))
-unfolding inside
 some-outside s t h = bin-ind (λ m. (t : ℕ) → (bitAnd m t ≡ m → ⊥) → (v : ℕ) × (In v m × (has t v ≡ false))) base step s t (eqb-false (bitAnd s t) s h)
   where
     base : (t : ℕ) → (bitAnd 0 t ≡ 0 → ⊥) → (v : ℕ) × (In v 0 × (has t v ≡ false))
@@ -221,7 +219,6 @@ outside-some s t v h k = elim (cases-bool (inside s t)) [
 ]
 
 pub meeting-means : (s t : ℕ) → Decides (meeting s t) ((v : ℕ) × (In v s × In v t))
-unfolding meeting
 meeting-means s t = (
   λ e.
       let some = some-in (bitAnd s t) (elim (cases-lt 0 (bitAnd s t)) [ inl p ↦ p | inr p ↦ absurd (eqb-false (bitAnd s t) 0 (not-true (eqb (bitAnd s t) 0) e) (omega arith)) ]) in
@@ -243,15 +240,12 @@ has-difference s t v small few = has-and s (2 ^ 64 - 1 - t) v ∙ elim (cases-lt
 
 -- `mask | 1 << v`
 pub include-is : (m v : ℕ) → v < 64 → bitOr m ((1 * 2 ^ v) % 2 ^ 64) ≡ including m v
-unfolding including
 include-is m v h = ap (λ (x : ℕ). bitOr m x) (one-shl v 64 h)
 
 pub has-including : (m v u : ℕ) → has (including m v) u ≡ (has m u || eqb u v)
-unfolding including
 has-including m v u = has-or m (2 ^ v) u ∙ ap (λ (b : Bool). has m u || b) (has-single v u)
 
 pub has-full : (n v : ℕ) → has (full n) v ≡ ltb v n
-unfolding full
 has-full n v = elim (cases-lt v n) [
   | inl l ↦
       let same : 2 ^ n - 1 ≡ 2 ^ n - 1 - 0 = omega arith in
@@ -260,12 +254,4 @@ has-full n v = elim (cases-lt v n) [
 ]
 
 pub full-lt : (n : ℕ) → full n < 2 ^ n
-unfolding full
 full-lt n = omega (arith, pow-pos n)
-
--- below n and below 64
-pub full-below : (n v : ℕ) → has (full (min n 64)) v ≡ (ltb v n && ltb v 64)
-full-below n v = has-full (min n 64) v ∙ elim (cases-lt n 64) [
-  | inl l ↦ let e : min n 64 ≡ n = omega arith in ap (ltb v) e ∙ grind (arith, tells)
-  | inr l ↦ let e : min n 64 ≡ 64 = omega arith in ap (ltb v) e ∙ grind (arith, tells)
-]

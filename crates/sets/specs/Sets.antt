@@ -3,6 +3,9 @@
 --   In v m         the same, as a fact
 --   inside s t     every operator of s is in t
 --   meeting s t    some operator is in both
+--   either s t     the operators of the one set or the other
+--   both s t       the operators of both sets
+--   without s t    the operators of s that are not in t
 --   including m v  the set m with operator v
 --   full n         the set of the operators below n
 --   upto n         the numbers 0, 1, .. n - 1
@@ -22,16 +25,25 @@ has m v = eqb (m / 2 ^ v % 2) 1
 abbrev pub In : ℕ → ℕ → Type 0
 In v m = has m v ≡ true
 
-unfoldable pub inside : ℕ → ℕ → Bool
+abbrev pub inside : ℕ → ℕ → Bool
 inside s t = eqb (bitAnd s t) s
 
-unfoldable pub meeting : ℕ → ℕ → Bool
+abbrev pub meeting : ℕ → ℕ → Bool
 meeting s t = not (eqb (bitAnd s t) 0)
 
-unfoldable pub including : ℕ → ℕ → ℕ
+abbrev pub either : ℕ → ℕ → ℕ
+either s t = bitOr s t
+
+abbrev pub both : ℕ → ℕ → ℕ
+both s t = bitAnd s t
+
+abbrev pub without : ℕ → ℕ → ℕ
+without s t = bitAnd s (2 ^ 64 - 1 - t)
+
+abbrev pub including : ℕ → ℕ → ℕ
 including m v = bitOr m (2 ^ v)
 
-unfoldable pub full : ℕ → ℕ
+abbrev pub full : ℕ → ℕ
 full n = 2 ^ n - 1
 
 unfoldable pub upto : ℕ → List ℕ

@@ -1,13 +1,13 @@
 // Sets of operators as masks of 64 bits: bit `v` of a mask stands for operator `v`.
 ghost use mathlib.Core.Path.{_≡_};
-ghost use mathlib.Core.Bool.{Bool, not, cond, _&&_, _||_};
+ghost use mathlib.Core.Bool.{cond};
 ghost use mathlib.Core.List.{[], _∷_};
-ghost use Prim.Native.Nat.{ℕ, min, _+_, _<_, _≤_};
-ghost use lib.Dec.{eqb, ltb};
+ghost use Prim.Native.Nat.{min};
+ghost use lib.Dec.{ltb};
 ghost use lib.ListN.{length};
 ghost use Rattle.std.specs.Options.{Cases};
-ghost use Rattle.std.specs.Orderings.{Decides};
-ghost use Rattle.sets.specs.Sets.{has, In, inside, meeting, including, full, members};
+ghost use Rattle.sets.specs.Sets.{has, inside, meeting, either, both, without, including, full, members};
+ghost use Rattle.sets.specs.Laws.{Laws-stand};
 
 // Whether operator `v` is in the set; none from 64 on is in any.
 pub fn holds(mask: u64, v: usize) -> bool
@@ -18,62 +18,51 @@ pub fn holds(mask: u64, v: usize) -> bool
 
 // The set with operator `v` too; from 64 on, the set as it is.
 pub fn include(mask: u64, v: usize) -> u64
-    ensures value { λ r. ⌜ r ≡ cond (ltb v 64) (including mask v) mask ⌝ }
-    ensures means { λ r. ⌜ ((u : ℕ) → has r u ≡ (has mask u || (eqb u v && ltb v 64))) ⌝ }
+    ensures { λ r. ⌜ r ≡ cond (ltb v 64) (including mask v) mask ⌝ }
 {
     if v < 64 { mask | 1 << v } else { mask }
 }
 
 // The set of the operators below `n`, at most 64.
 pub fn all_below(n: usize) -> u64
-    ensures value { λ r. ⌜ r ≡ full (min n 64) ⌝ }
-    ensures means { λ r. ⌜ ((v : ℕ) → has r v ≡ (ltb v n && ltb v 64)) ⌝ }
+    ensures { λ r. ⌜ r ≡ full (min n 64) ⌝ }
 {
     if n < 64 { (1 << n) - 1 } else { u64::MAX }
 }
 
 // The operators of either set.
 pub fn union(s: u64, t: u64) -> u64
-    ensures { λ r. ⌜ ((v : ℕ) → has r v ≡ (has s v || has t v)) ⌝ }
+    ensures { λ r. ⌜ r ≡ either s t ⌝ }
 {
     s | t
 }
 
 // The operators of both sets.
 pub fn intersection(s: u64, t: u64) -> u64
-    ensures { λ r. ⌜ ((v : ℕ) → has r v ≡ (has s v && has t v)) ⌝ }
+    ensures { λ r. ⌜ r ≡ both s t ⌝ }
 {
     s & t
 }
 
 // The operators of `s` that are not in `t`.
 pub fn difference(s: u64, t: u64) -> u64
-    ensures { λ r. ⌜ ((v : ℕ) → has r v ≡ (has s v && not (has t v))) ⌝ }
+    ensures { λ r. ⌜ r ≡ without s t ⌝ }
 {
     s & !t
 }
 
-// Whether every operator of `s` is in `t`.
-pub fn is_inside(s: u64, t: u64) -> bool
-    ensures value { λ r. ⌜ r ≡ inside s t ⌝ }
-    ensures means { λ r. ⌜ Decides r ((v : ℕ) → In v s → In v t) ⌝ }
+// Whether every operator of the one set is in the other.
+pub fn is_inside(inner: u64, outer: u64) -> bool
+    ensures { λ r. ⌜ r ≡ inside inner outer ⌝ }
 {
-    s & t == s
+    inner & outer == inner
 }
 
 // Whether some operator is in both sets.
-pub fn is_meeting(s: u64, t: u64) -> bool
-    ensures value { λ r. ⌜ r ≡ meeting s t ⌝ }
-    ensures means { λ r. ⌜ Decides r ((v : ℕ) × (In v s × In v t)) ⌝ }
+pub fn is_meeting(left: u64, right: u64) -> bool
+    ensures { λ r. ⌜ r ≡ meeting left right ⌝ }
 {
-    s & t != 0
-}
-
-// Whether two masks are the same: exactly if they have the same members.
-pub fn is_same(s: u64, t: u64) -> bool
-    ensures { λ r. ⌜ Decides r ((v : ℕ) → has s v ≡ has t v) ⌝ }
-{
-    s == t
+    left & right != 0
 }
 
 // How many operators the set has.
@@ -93,4 +82,11 @@ pub fn take_lowest(mask: &mut u64) -> Option<usize>
     }
     *mask = left & (left - 1);
     Some(left.trailing_zeros() as usize)
+}
+
+// What these operations mean for the members of sets.
+pub fn laws_stand() -> u8
+    ensures { λ _. ⌜ Laws-stand ⌝ }
+{
+    0
 }

@@ -12,8 +12,8 @@ use Rattle.std.specs.shelf.Lists.{All, sumBy, kept-by}
 use Rattle.std.proofs.shelf.Sums.{sumBy-cons, sumBy-le}
 use Rattle.std.proofs.shelf.Elements.{all-weaker, all-from-getD}
 use Rattle.std.proofs.shelf.Tests.{and-parts, and-from, false≢true}
-use Rattle.sets.specs.Sets.{has, In, inside, meeting, members, full, upto, gathered}
-use Rattle.sets.proofs.Sets.{has-full, meeting-means, some-outside, outside-some}
+use Rattle.sets.specs.Sets.{has, In, inside, meeting, both, members, full, upto, gathered}
+use Rattle.sets.proofs.Sets.{has-and, has-full, meeting-means, some-outside, outside-some}
 use Rattle.sets.proofs.Members.{members-few, members-kept, members-gathered, kept-all}
 use Rattle.sheet.specs.declared.operators.Operator.{Operator}
 use Rattle.sheet.specs.declared.operators.Figure.{Figure}
@@ -56,10 +56,11 @@ and-swap true false = refl
 and-swap false true = refl
 and-swap false false = refl
 
--- the operators of a mask: `set` is what is in both m and the set of all
-pub members-inside : (m all set n : ℕ) → n ≤ 64 → all ≡ full n → ((v : ℕ) → has set v ≡ (has m v && has all v)) → members set ≡ kept-by (has m) (upto n)
-members-inside m all set n few is both =
-    members-kept (has m) n set few (λ v. both v ∙ ap (λ (b : Bool). has m v && b) (ap (λ (x : ℕ). has x v) is ∙ has-full n v) ∙ and-swap (has m v) (ltb v n))
+-- the operators of a mask
+pub members-inside : (m all set n : ℕ) → n ≤ 64 → all ≡ full n → set ≡ both m all → members set ≡ kept-by (has m) (upto n)
+members-inside m all set n few is common =
+    members-kept (has m) n set few
+    (λ v. ap (λ (x : ℕ). has x v) common ∙ has-and m all v ∙ ap (λ (b : Bool). has m v && b) (ap (λ (x : ℕ). has x v) is ∙ has-full n v) ∙ and-swap (has m v) (ltb v n))
 
 pub members-tested : (p : ℕ → Bool) (set n : ℕ) → n ≤ 64 → set ≡ gathered p n → members set ≡ kept-by p (upto n)
 members-tested p set n few is = ap members is ∙ members-gathered p n few

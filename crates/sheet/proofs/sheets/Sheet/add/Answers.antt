@@ -6,20 +6,8 @@ use lib.ListN.{length}
 use Rattle.std.proofs.shelf.Lists.{length-take-le}
 use Rattle.sheet.specs.Nets.{size}
 use Rattle.sheet.specs.Views.{net}
-use Rattle.sheet.proofs.Changes.{add-full, add-above, add-granted, modest-more, upward-more, added-more}
+use Rattle.sheet.proofs.Changes.{add-granted, modest-more, upward-more, added-more}
 use Rattle.sheet.proofs.sheets.Sheet.add.Needs as need
-
-pub returns-then-v-ge-MOST-OPERATORS : need.returns-then-v-ge-MOST-OPERATORS
-returns-then-v-ge-MOST-OPERATORS c =
-    let s = c .args .self .now in
-    let front : size (net s) ≡ s .operators = length-take-le (s .operators) (s .rows) (omega arith) in
-    record { refuses = add-full (net s) (c .args .operator) (omega (arith, front)); value = tt; changes = refl }
-
-pub returns-then-not-is-within : need.returns-then-not-is-within
-returns-then-not-is-within c =
-    let s = c .args .self .now in
-    let front : size (net s) ≡ s .operators = length-take-le (s .operators) (s .rows) (omega arith) in
-    record { refuses = add-above (net s) (c .args .operator) (omega (arith, front)) (sym (c .if-not-is-within .ensures tt)); value = tt; changes = refl }
 
 pub ghost-self : need.ghost-self
 ghost-self c =

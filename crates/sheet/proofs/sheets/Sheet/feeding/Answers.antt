@@ -19,7 +19,7 @@ loop-u-again c =
     let u = c .loop-u .u in
     let test : ℕ → Bool = feeds (net (c .args .self .now)) (c .args .mask) in
     elim (c .if-is-feeding .came) [
-      | then-is-feeding w ↦ w .set-is ∙ gathered-yes test u (c .loop-u .set) (w .include-set .result) (omega arith) (c .loop-u .inv) (sym (c .is-feeding .ensures) ∙ w .if-is-feeding .taken) (w .include-set .ensures .value)
+      | then-is-feeding w ↦ w .set-is ∙ gathered-yes test u (c .loop-u .set) (w .include-set .result) (omega arith) (c .loop-u .inv) (sym (c .is-feeding .ensures) ∙ w .if-is-feeding .taken) (w .include-set .ensures)
       | else-is-feeding w ↦ w .set-is ∙ gathered-no test u (c .loop-u .set) (c .loop-u .inv) (sym (c .is-feeding .ensures) ∙ w .if-is-feeding .left)
     ]
 

@@ -1,10 +1,10 @@
 use Prim.Native.Nat.{ℕ, _<_, _≤_}
-use mathlib.Core.Bool.{Bool, _&&_}
+use mathlib.Core.Bool.{Bool}
 use mathlib.Core.Path.{_≡_, ap}
 use native.Mathlib.Omega.{arith}
 use Rattle.std.specs.shelf.Lists.{All, kept-by}
 use Rattle.std.proofs.shelf.Lists.{length-take-le}
-use Rattle.sets.specs.Sets.{has, members, full, upto, gathered}
+use Rattle.sets.specs.Sets.{has, both, members, full, upto, gathered}
 use Rattle.sheet.specs.declared.sheets.Sheet.{Sheet}
 use Rattle.sheet.specs.declared.operators.Figure.the-variants.{Acc, Cpu, Size, Link}
 use Rattle.sheet.specs.Nets.{size}
@@ -20,8 +20,8 @@ module _ (s : Sheet) where
   few : size (net s) ≤ 64
   few = omega (arith, front, s .few)
 
-  inside-is : (m all set : ℕ) → all ≡ full (size (net s)) → ((v : ℕ) → has set v ≡ (has m v && has all v)) → members set ≡ kept-by (has m) (upto (size (net s)))
-  inside-is m all set is both = members-inside m all set (size (net s)) few is both
+  inside-is : (m all set : ℕ) → all ≡ full (size (net s)) → set ≡ both m all → members set ≡ kept-by (has m) (upto (size (net s)))
+  inside-is m all set is common = members-inside m all set (size (net s)) few is common
 
   tested-is : (p : ℕ → Bool) (set : ℕ) → set ≡ gathered p (size (net s)) → members set ≡ kept-by p (upto (size (net s)))
   tested-is p set is = members-tested p set (size (net s)) few is

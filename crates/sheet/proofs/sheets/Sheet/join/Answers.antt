@@ -26,7 +26,7 @@ ghost-self c =
     let s = c .args .self .now in
     let u = c .args .from in
     let v = c .args .to in
-    let is = c .include .ensures .value ∙ ap (λ (b : Bool). cond b (including (getD (s .successors) u 0) v) (getD (s .successors) u 0)) (lt-ltb v 64 (omega arith)) in
+    let is = c .include .ensures ∙ ap (λ (b : Bool). cond b (including (getD (s .successors) u 0) v) (getD (s .successors) u 0)) (lt-ltb v 64 (omega arith)) in
     (omega arith, ((s .tables .0, length-set (s .successors) u (c .include .result) ∙ s .tables .1), (s .modest, (upward-set (s .successors) (s .operators) u v (c .include .result) (omega arith) (omega arith) (omega arith) is (s .upward), (s .devices, tt)))))
 
 pub returns : need.returns
@@ -36,7 +36,7 @@ returns c =
     let v = c .args .to in
     let front : size (net s) ≡ s .operators = length-take-le (s .operators) (s .rows) (omega arith) in
     let new = ap (λ (m : ℕ). has m v) (getD-take (s .operators) (s .successors) u 0 (omega arith)) ∙ sym (c .if-holds .ensures tt) in
-    let is = c .include .ensures .value ∙ ap (λ (b : Bool). cond b (including (getD (s .successors) u 0) v) (getD (s .successors) u 0)) (lt-ltb v 64 (omega arith)) in
+    let is = c .include .ensures ∙ ap (λ (b : Bool). cond b (including (getD (s .successors) u 0) v) (getD (s .successors) u 0)) (lt-ltb v 64 (omega arith)) in
     record {
       refuses = join-granted (net s) u v (omega (arith, front)) (omega (arith, front)) (omega arith) new;
       changes = joined-set (s .rows) (s .successors) (s .operators) (s .k) (s .l) u v (c .include .result) (omega arith) is;

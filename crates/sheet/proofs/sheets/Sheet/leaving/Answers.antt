@@ -19,7 +19,7 @@ loop-u-again c =
     let u = c .loop-u .u in
     let test : ℕ → Bool = leaves (net (c .args .self .now)) (c .args .mask) in
     elim (c .if-is-leaving .came) [
-      | then-is-leaving w ↦ w .set-is ∙ gathered-yes test u (c .loop-u .set) (w .include-set .result) (omega arith) (c .loop-u .inv) (sym (c .is-leaving .ensures) ∙ w .if-is-leaving .taken) (w .include-set .ensures .value)
+      | then-is-leaving w ↦ w .set-is ∙ gathered-yes test u (c .loop-u .set) (w .include-set .result) (omega arith) (c .loop-u .inv) (sym (c .is-leaving .ensures) ∙ w .if-is-leaving .taken) (w .include-set .ensures)
       | else-is-leaving w ↦ w .set-is ∙ gathered-no test u (c .loop-u .set) (c .loop-u .inv) (sym (c .is-leaving .ensures) ∙ w .if-is-leaving .left)
     ]
 

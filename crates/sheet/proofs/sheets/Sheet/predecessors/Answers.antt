@@ -19,7 +19,7 @@ loop-u-again c =
     let u = c .loop-u .u in
     let test : ℕ → Bool = λ x. has (after (net (c .args .self .now)) x) (c .args .v) in
     elim (c .if-holds .came) [
-      | then-holds w ↦ w .set-is ∙ gathered-yes test u (c .loop-u .set) (w .include-set .result) (omega arith) (c .loop-u .inv) (ap (λ (m : ℕ). has m (c .args .v)) (sym (c .successors .ensures)) ∙ sym (c .holds .ensures) ∙ w .if-holds .taken) (w .include-set .ensures .value)
+      | then-holds w ↦ w .set-is ∙ gathered-yes test u (c .loop-u .set) (w .include-set .result) (omega arith) (c .loop-u .inv) (ap (λ (m : ℕ). has m (c .args .v)) (sym (c .successors .ensures)) ∙ sym (c .holds .ensures) ∙ w .if-holds .taken) (w .include-set .ensures)
       | else-holds w ↦ w .set-is ∙ gathered-no test u (c .loop-u .set) (c .loop-u .inv) (ap (λ (m : ℕ). has m (c .args .v)) (sym (c .successors .ensures)) ∙ sym (c .holds .ensures) ∙ w .if-holds .left)
     ]
 
