@@ -9,3 +9,4 @@ pub mod Unique
 pub mod Rising
 pub mod Pairs
 pub mod Written
+pub mod Puts

@@ -2,3 +2,4 @@ pub mod Contents
 pub mod Bodies
 pub mod Layout
 pub mod Written
+pub mod Writes
