@@ -12,3 +12,4 @@ pub mod Building
 pub mod Rising
 pub mod Pairs
 pub mod Written
+pub mod Puts

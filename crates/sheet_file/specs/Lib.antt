@@ -5,3 +5,4 @@ pub mod Written
 pub mod Opened
 pub mod Loading
 pub mod Reads
+pub mod Writes

@@ -6,6 +6,8 @@ ghost use lib.ListN.{length};
 ghost use Rattle.std.specs.Options.{Cases};
 ghost use Rattle.sheet_file.specs.Contents.{start, head-right, section-of, offset-of, length-of, admits, entry-right};
 
+use super::LETTERS;
+
 // What is due of a contents entry: its section, the size of an entry of its body, how long the body may be, and whether it is the last.
 #[derive(Drop)]
 pub(crate) struct Due {
@@ -24,7 +26,6 @@ struct Entry {
     length: usize,
 }
 
-pub(crate) const LETTERS: &[u8; 4] = b"WEFT";
 
 pub(crate) const FIRST_BODY: usize = 20;
 
