@@ -2,10 +2,13 @@
 --   told r         the number of a refusal, then its values
 --   told-reason r  the number of what is wrong with an entry of a file's body
 --   outcome r      what a result tells: nothing where there is an answer
+--   spelled ts     the text of what is told: its numbers, with one space between two
 use Prim.Native.Nat.{ℕ}
-use mathlib.Core.List.{List, [], _∷_}
+use mathlib.Core.List.{List, [], _∷_, _++_}
 use Rattle.std.specs.declared.result.Result.{Result}
 use Rattle.std.specs.declared.result.Result.the-variants.{Ok, Err}
+use Rattle.std.specs.Written.{decimal}
+use Rattle.std.specs.shelf.Lists.{joined}
 use Rattle.refusals.specs.declared.Reason.{Reason}
 use Rattle.refusals.specs.declared.Reason.the-variants as reasons
 use Rattle.refusals.specs.declared.Refusal.{Refusal}
@@ -33,3 +36,7 @@ told BufferTooShort = 15 ∷ []
 abbrev pub outcome : {X : Type 0} → Result X Refusal → List ℕ
 outcome (Ok x) = []
 outcome (Err e) = told e
+
+abbrev pub spelled : List ℕ → List ℕ
+spelled [] = []
+spelled (x ∷ xs) = decimal x ++ joined (λ v. 32 ∷ decimal v) xs

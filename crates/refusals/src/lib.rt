@@ -1,7 +1,9 @@
 // Why a call is refused: one case for each cause, and the number and values by which it is told.
 ghost use mathlib.Core.Path.{_≡_};
 ghost use lib.ListN.{getD};
-ghost use Rattle.refusals.specs.Told.{told, told-reason};
+ghost use Rattle.std.specs.declared.option.Option.the-variants.{Some};
+ghost use Rattle.refusals.specs.Told.{told, told-reason, spelled};
+use std::fmt;
 
 // What is wrong with an entry of a sheet file's body.
 #[derive(Clone, Copy, PartialEq, Eq, Debug)]
@@ -72,6 +74,27 @@ impl Refusal {
             Refusal::ContentsEntry(_) => 13,
             Refusal::BodyEntry { .. } => 14,
             Refusal::BufferTooShort => 15,
+        }
+    }
+}
+
+// The number of a refusal and then its values, with one space between two.
+pub impl fmt::Display for Refusal as RefusalDisplay {
+    ghost shown = { λ r. Some (spelled (told r)) };
+
+    fn fmt<W: fmt::Write>(&self, f: &mut fmt::Formatter<W>) -> fmt::Result {
+        let number = self.number();
+        match self {
+            Refusal::ContentsEntry(index) => write!(f, "{number} {index}"),
+            Refusal::BodyEntry {
+                section,
+                entry,
+                reason,
+            } => {
+                let reason = reason.number();
+                write!(f, "{number} {section} {entry} {reason}")
+            }
+            _ => write!(f, "{number}"),
         }
     }
 }
