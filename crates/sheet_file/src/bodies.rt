@@ -11,12 +11,15 @@ ghost use Rattle.sheet.specs.Changes.{changed, added, joined, counted};
 ghost use Rattle.sheet.specs.Views.{net};
 ghost use Rattle.sheet_file.specs.Bodies.{row-at, from, to, ascends, first-wrong, row-refusal, edge-refusal, counts-refusal, rows-in, edges-in, with-rows, with-edges, bodies-refusal, net-of-bodies};
 ghost use Rattle.sheet_file.specs.Loading.{edge-reason, Listing};
+use super::COUNTS;
+use super::EDGE_SIZE;
+use super::EDGES;
+use super::OPERATOR_SIZE;
+use super::OPERATORS;
 use refusals::Reason;
 use refusals::Refusal;
 use sheet::Operator;
 use sheet::Sheet;
-
-const ROW: usize = 16;
 
 // The figure of four bytes from a place.
 fn figure(body: &[u8], at: usize) -> u32
@@ -31,7 +34,7 @@ fn row(body: &[u8], v: usize) -> Operator
     requires { ⌜ 16 * v + 16 ≤ length (now body) ⌝ }
     ensures { λ r. ⌜ r ≡ row-at (now (body .entry)) (16 * v) ⌝ }
 {
-    let at = ROW * v;
+    let at = OPERATOR_SIZE * v;
     Operator {
         acc: figure(body, at),
         cpu: figure(body, at + 4),
@@ -49,7 +52,7 @@ fn add_row(sheet: &mut Sheet, body: &[u8], v: usize) -> Result<(), Refusal>
     match sheet.add(row(body, v)) {
         Ok(_) => Ok(()),
         Err(_) => Err(Refusal::BodyEntry {
-            section: 1,
+            section: OPERATORS,
             entry: v,
             reason: Reason::AboveLimit,
         }),
@@ -63,7 +66,7 @@ fn add_rows(sheet: &mut Sheet, body: &[u8]) -> Result<(), Refusal>
     ensures refuses { λ r. ⌜ outcome r ≡ first-wrong (row-refusal (now (body .entry))) (rows-in (now (body .entry))) ⌝ }
     ensures reads { λ r. ⌜ made r (λ _. net (now (sheet .exit)) ≡ with-rows (now (body .entry)) (rows-in (now (body .entry))) empty) ⌝ }
 {
-    for v in 0..body.len() / ROW {
+    for v in 0..body.len() / OPERATOR_SIZE {
         add_row(sheet, body, v)?;
     }
     Ok(())
@@ -77,7 +80,7 @@ fn is_ascending(body: &[u8], i: usize) -> bool
     if i == 0 {
         return true;
     }
-    let at = 2 * i;
+    let at = EDGE_SIZE * i;
     body[at - 2] < body[at] || body[at - 2] == body[at] && body[at - 1] < body[at + 1]
 }
 
@@ -107,14 +110,14 @@ fn join_edge(
 {
     if let Err(refusal) = sheet.join(source as usize, target as usize) {
         return Err(Refusal::BodyEntry {
-            section: 2,
+            section: EDGES,
             entry: i,
             reason: reason(&refusal),
         });
     }
     if !is_ascending(body, i) {
         return Err(Refusal::BodyEntry {
-            section: 2,
+            section: EDGES,
             entry: i,
             reason: Reason::NotAscending,
         });
@@ -147,7 +150,7 @@ fn set_counts(sheet: &mut Sheet, body: &[u8]) -> Result<(), Refusal>
     match sheet.count(body[0], body[1]) {
         Ok(()) => Ok(()),
         Err(_) => Err(Refusal::BodyEntry {
-            section: 3,
+            section: COUNTS,
             entry: 0,
             reason: Reason::CountAboveLimit,
         }),

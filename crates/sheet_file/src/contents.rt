@@ -5,6 +5,8 @@ ghost use Prim.Native.Nat.{_+_, _*_, _<_, _≤_};
 ghost use lib.ListN.{length};
 ghost use Rattle.std.specs.Options.{Cases};
 ghost use Rattle.sheet_file.specs.Contents.{start, head-right, section-of, offset-of, length-of, admits, entry-right};
+use super::ENTRIES;
+use super::FIRST_BODY;
 use super::LETTERS;
 
 // What is due of a contents entry: its section, the size of an entry of its body, how long the body may be, and whether it is the last.
@@ -24,10 +26,6 @@ struct Entry {
     offset: usize,
     length: usize,
 }
-
-pub(crate) const FIRST_BODY: usize = 20;
-
-const ENTRIES: u8 = 3;
 
 const HEAD: usize = 5;
 

@@ -4,8 +4,14 @@ ghost use Rattle.std.specs.Vec.{made};
 ghost use Rattle.refusals.specs.Told.{outcome};
 ghost use Rattle.sheet_file.specs.Contents.{contents-refusal};
 ghost use Rattle.sheet_file.specs.Opened.{Opened};
+use super::COUNTS;
+use super::COUNTS_SIZE;
+use super::EDGE_SIZE;
+use super::EDGES;
+use super::FIRST_BODY;
+use super::OPERATOR_SIZE;
+use super::OPERATORS;
 use super::contents::Due;
-use super::contents::FIRST_BODY;
 use super::contents::body_end;
 use super::contents::is_sheet_file;
 use refusals::Refusal;
@@ -25,27 +31,27 @@ pub struct Reader<'a> {
     counts: Part<'a>,
 }
 
-const OPERATORS: Due = Due {
-    section: 1,
-    unit: 16,
+const OPERATORS_DUE: Due = Due {
+    section: OPERATORS,
+    unit: OPERATOR_SIZE,
     least: 0,
     most: 1024,
     last: false,
 };
 
-const EDGES: Due = Due {
-    section: 2,
-    unit: 2,
+const EDGES_DUE: Due = Due {
+    section: EDGES,
+    unit: EDGE_SIZE,
     least: 0,
     most: 4032,
     last: false,
 };
 
-const COUNTS: Due = Due {
-    section: 3,
-    unit: 2,
-    least: 2,
-    most: 2,
+const COUNTS_DUE: Due = Due {
+    section: COUNTS,
+    unit: COUNTS_SIZE,
+    least: COUNTS_SIZE,
+    most: COUNTS_SIZE,
     last: true,
 };
 
@@ -58,13 +64,13 @@ impl<'a> Reader<'a> {
         if !is_sheet_file(file) {
             return Err(Refusal::NotASheetFile);
         }
-        let Some(edges_at) = body_end(file, 0, FIRST_BODY, &OPERATORS) else {
+        let Some(edges_at) = body_end(file, 0, FIRST_BODY, &OPERATORS_DUE) else {
             return Err(Refusal::ContentsEntry(0));
         };
-        let Some(counts_at) = body_end(file, 1, edges_at, &EDGES) else {
+        let Some(counts_at) = body_end(file, 1, edges_at, &EDGES_DUE) else {
             return Err(Refusal::ContentsEntry(1));
         };
-        let Some(end) = body_end(file, 2, counts_at, &COUNTS) else {
+        let Some(end) = body_end(file, 2, counts_at, &COUNTS_DUE) else {
             return Err(Refusal::ContentsEntry(2));
         };
         Ok(Reader {

@@ -9,7 +9,15 @@ ghost use Rattle.sets.specs.Sets.{members};
 ghost use Rattle.sheet.specs.Views.{net};
 ghost use Rattle.sheet_file.specs.Written.{entry-bytes, row-bytes, pair-bytes, rows-bytes, edges-bytes, head-bytes, file-of};
 ghost use Rattle.sheet_file.specs.Writes.{Writes, Keeps};
+use super::COUNTS;
+use super::COUNTS_SIZE;
+use super::EDGE_SIZE;
+use super::EDGES;
+use super::ENTRIES;
+use super::FIRST_BODY;
 use super::LETTERS;
+use super::OPERATOR_SIZE;
+use super::OPERATORS;
 use refusals::Refusal;
 use sheet::Operator;
 use sheet::Sheet;
@@ -38,10 +46,17 @@ fn put_head(buffer: &mut [u8], operators: u16, edges: u16) -> usize
     ensures { λ r. ⌜ Wrote (now (buffer .entry)) 0 r (head-bytes operators edges) (now (buffer .exit)) ⌝ }
 {
     let count_at = put(buffer, 0, &LETTERS);
-    let first_at = put(buffer, count_at, &[3]);
-    let second_at = put_entry(buffer, first_at, 1, 20, operators);
-    let third_at = put_entry(buffer, second_at, 2, 20 + operators, edges);
-    put_entry(buffer, third_at, 3, 20 + operators + edges, 2)
+    let first_at = put(buffer, count_at, &[ENTRIES]);
+    let first_body = FIRST_BODY as u16;
+    let second_at = put_entry(buffer, first_at, OPERATORS, first_body, operators);
+    let third_at = put_entry(buffer, second_at, EDGES, first_body + operators, edges);
+    put_entry(
+        buffer,
+        third_at,
+        COUNTS,
+        first_body + operators + edges,
+        COUNTS_SIZE as u16,
+    )
 }
 
 // The figures of an operator.
@@ -98,7 +113,7 @@ fn put_edges(buffer: &mut [u8], from: usize, sheet: &Sheet) -> usize
 pub fn file_length(sheet: &Sheet) -> usize
     ensures { λ r. ⌜ r ≡ length (file-of (net (now (sheet .entry)))) ⌝ }
 {
-    22 + 16 * sheet.operators() + 2 * sheet.edges()
+    FIRST_BODY + OPERATOR_SIZE * sheet.operators() + EDGE_SIZE * sheet.edges() + COUNTS_SIZE
 }
 
 // Writes the sheet's file to the front of the buffer and answers its length, or leaves the buffer as it is where it is too short.
@@ -108,8 +123,8 @@ pub fn write(sheet: &Sheet, buffer: &mut [u8]) -> Result<usize, Refusal>
     if buffer.len() < file_length(sheet) {
         return Err(Refusal::BufferTooShort);
     }
-    let operators = 16 * sheet.operators() as u16;
-    let edges = 2 * sheet.edges() as u16;
+    let operators = (OPERATOR_SIZE * sheet.operators()) as u16;
+    let edges = (EDGE_SIZE * sheet.edges()) as u16;
     let (k, l) = sheet.counts();
     let rows_at = put_head(buffer, operators, edges);
     let edges_at = put_rows(buffer, rows_at, sheet);

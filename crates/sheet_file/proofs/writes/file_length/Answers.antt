@@ -10,5 +10,8 @@ mul-result-2 c = omega (arith, edges-few (net (c .args .sheet .now)) (c .operato
 pub add-result-2 : need.add-result-2
 add-result-2 c = omega (arith, edges-few (net (c .args .sheet .now)) (c .operators .ensures .keeps))
 
+pub add-result-3 : need.add-result-3
+add-result-3 c = omega (arith, edges-few (net (c .args .sheet .now)) (c .operators .ensures .keeps))
+
 pub returns : need.returns
 returns c = omega (arith, c .operators .ensures .value, c .edges .ensures) ∙ sym (file-length (net (c .args .sheet .now)))
