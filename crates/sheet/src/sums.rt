@@ -55,7 +55,8 @@ impl Sheet {
         sets::holds(mask, u) && !sets::is_inside(self.successors(u), mask)
     }
 
-    fn feeding(&self, mask: u64) -> u64
+    // The operators outside the set that have an edge into it.
+    pub fn feeding(&self, mask: u64) -> u64
         ensures { λ r. ⌜ r ≡ gathered (feeds (net (now (self .entry))) mask) (size (net (now (self .entry)))) ⌝ }
     {
         let mut set = 0;
@@ -67,7 +68,8 @@ impl Sheet {
         set
     }
 
-    fn leaving(&self, mask: u64) -> u64
+    // The operators of the set that have an edge out of it.
+    pub fn leaving(&self, mask: u64) -> u64
         ensures { λ r. ⌜ r ≡ gathered (leaves (net (now (self .entry))) mask) (size (net (now (self .entry)))) ⌝ }
     {
         let mut set = 0;

@@ -1,7 +1,7 @@
 -- The first rule that a list of stages breaks, stage by stage.
 --   told-breach b            the number of a breach, then the index of the stage
 --   back n m placed          an edge leads from the set m into the set placed
---   room n kind a b          a device of this kind is free, a of the first kind and b of the second being in use
+--   device-breach n w i k    whether a device of kind k is left after a walk w
 --   stage-breach n e w i s   what stage s, with index i, breaks after a walk w over the stages before it
 --   breach n e ss            what a list of stages breaks, nothing where it is lawful
 use Prim.Native.Nat.{ℕ, zero, suc, _+_}
@@ -15,6 +15,7 @@ use Rattle.sets.specs.Sets.{has, inside, meeting, either, full, gathered}
 use Rattle.sheet.specs.Nets.{Net, size, after}
 use Rattle.sheet.specs.Changes.{unless, first}
 use Rattle.split.specs.declared.stages.Stage.{Stage}
+use Rattle.split.specs.declared.walks.Walk.{Walk}
 use Rattle.split.specs.declared.stages.Breach.{Breach}
 use Rattle.split.specs.declared.stages.Breach.the-variants.{EmptyStage, ForeignOperator, RepeatedOperator, EdgeBack, DoesNotFit, TooManyOfFirst, TooManyOfSecond, MissingOperator}
 use Rattle.split.specs.Splits.{Kinds, asked}
@@ -32,12 +33,6 @@ told-breach MissingOperator = 8 ∷ []
 abbrev pub breached : {X : Type 0} → Result X Breach → List ℕ
 breached (Ok x) = []
 breached (Err b) = told-breach b
-
--- the operators of the stages so far, and how many of these are of each kind
-pub record Walk : Type 0 where
-  pub placed : ℕ
-  pub first : ℕ
-  pub second : ℕ
 
 abbrev pub back : Net → ℕ → ℕ → Bool
 back n m placed = not (eqb (gathered (λ u. has m u && meeting (after n u) placed) (size n)) 0)
