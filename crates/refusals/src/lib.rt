@@ -17,7 +17,7 @@ pub enum Reason {
 
 #[derive(Clone, Copy, PartialEq, Eq, Debug)]
 pub enum Refusal {
-    // a figure is above its limit
+    // a figure of an operator, or the limit of an accelerator, is above what it may be
     AboveLimit,
     // the sheet has all the operators that it can hold
     SheetFull,
