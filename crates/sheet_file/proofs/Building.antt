@@ -16,16 +16,16 @@ use Rattle.sheet.specs.declared.sheets.Sheet.{Sheet}
 use Rattle.sheet.specs.Nets.{Net, size, Edge, empty}
 use Rattle.sheet.specs.Changes.{first, counted}
 use Rattle.sheet.specs.Views.{net}
-use Rattle.sheet_file.specs.Contents.{length-of, body, contents-refusal}
-use Rattle.sheet_file.specs.Bodies.{first-wrong, row-refusal, edge-refusal, counts-refusal, rows-in, edges-in, with-rows, with-edges, bodies-refusal, net-of-bodies, net-of, file-refusal}
-use Rattle.sheet_file.specs.Layout.{LaidOut}
+use Rattle.sheet_layout.specs.Contents.{length-of, body, contents-refusal}
+use Rattle.sheet_layout.specs.Bodies.{first-wrong, row-refusal, edge-refusal, counts-refusal, rows-in, edges-in, with-rows, with-edges, bodies-refusal, net-of-bodies, net-of, file-refusal}
+use Rattle.sheet_layout.specs.Layout.{LaidOut}
 use Rattle.sheet_file.specs.Reads.{Reads}
-use Rattle.sheet_file.proofs.Firsts.{told-something}
-use Rattle.sheet_file.proofs.Edges.{with-rows-size, with-rows-after}
-use Rattle.sheet_file.proofs.Heads.{RightHead, contents-right}
-use Rattle.sheet_file.proofs.Places.{body-length}
-use Rattle.sheet_file.proofs.Accepted.{good-laid-out, laid-out-good}
-use Rattle.sheet_file.proofs.Unique.{laid-out-unique}
+use Rattle.sheet_layout.proofs.Firsts.{told-something}
+use Rattle.sheet_layout.proofs.Edges.{with-rows-size, with-rows-after}
+use Rattle.sheet_layout.proofs.Heads.{RightHead, contents-right}
+use Rattle.sheet_layout.proofs.Places.{body-length}
+use Rattle.sheet_layout.proofs.Accepted.{good-laid-out, laid-out-good}
+use Rattle.sheet_layout.proofs.Unique.{laid-out-unique}
 use Rattle.sheet_file.proofs.Loading.{first-told}
 
 -- ---- the bodies

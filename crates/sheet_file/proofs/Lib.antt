@@ -1,15 +1,3 @@
-pub mod Firsts
-pub mod Edges
-pub mod Heads
-pub mod Checks
-pub mod Places
-pub mod Nets
-pub mod Accepted
-pub mod Unique
 pub mod Opened
 pub mod Loading
 pub mod Building
-pub mod Rising
-pub mod Pairs
-pub mod Written
-pub mod Puts

@@ -14,12 +14,12 @@ use Rattle.refusals.specs.Told.{told}
 use Rattle.sets.specs.Sets.{has}
 use Rattle.sheet.specs.Nets.{Net, size, after, Edge, empty}
 use Rattle.sheet.specs.Changes.{unless, first, join-refusal, added, joined}
-use Rattle.sheet_file.specs.Bodies.{row-at, from, to, ascends, first-wrong, edge-refusal, with-rows, with-edges}
-use Rattle.sheet_file.specs.Layout.{Before}
+use Rattle.sheet_layout.specs.Bodies.{row-at, from, to, ascends, first-wrong, edge-refusal, with-rows, with-edges}
+use Rattle.sheet_layout.specs.Layout.{Before}
 use Rattle.sheet_file.specs.Loading.{edge-reason, Listing}
-use Rattle.sheet_file.proofs.Firsts.{first-wrong-more, first-wrong-nothing, told-something}
-use Rattle.sheet_file.proofs.Edges.{with-rows-more, with-edges-more, with-edges-cases, Inside}
-use Rattle.sheet_file.proofs.Checks.{ascends-before, RightEdge, edge-right}
+use Rattle.sheet_layout.proofs.Firsts.{first-wrong-more, first-wrong-nothing, told-something}
+use Rattle.sheet_layout.proofs.Edges.{with-rows-more, with-edges-more, with-edges-cases, Inside}
+use Rattle.sheet_layout.proofs.Checks.{ascends-before, RightEdge, edge-right}
 
 -- ---- the first complaint
 

@@ -5,7 +5,7 @@ use mathlib.Core.List.{List, []}
 use mathlib.Core.Path.{_≡_, refl, ap, _∙_}
 use native.Mathlib.Omega.{arith}
 use lib.ListN.{take, drop}
-use Rattle.sheet_file.specs.Contents.{head-right, entry-right, operators-due, edges-due, counts-due, contents-refusal}
+use Rattle.sheet_layout.specs.Contents.{head-right, entry-right, operators-due, edges-due, counts-due, contents-refusal}
 
 pub contents-granted : (f : List ℕ) → head-right f ≡ true → entry-right f 0 operators-due ≡ true → entry-right f 1 edges-due ≡ true → entry-right f 2 counts-due ≡ true → [] ≡ contents-refusal f
 contents-granted f head operators edges counts = rw (head, operators, edges, counts) refl

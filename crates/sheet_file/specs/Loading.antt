@@ -8,7 +8,7 @@ use mathlib.Core.Path.{_≡_}
 use lib.Dec.{eqb}
 use lib.ListN.{getD}
 use Rattle.sheet.specs.Nets.{Net, Edge}
-use Rattle.sheet_file.specs.Bodies.{from, to, ascends}
+use Rattle.sheet_layout.specs.Bodies.{from, to, ascends}
 
 abbrev pub edge-reason : List ℕ → ℕ
 edge-reason ts = cond (eqb (getD ts 0 0) 4) 4 (cond (eqb (getD ts 0 0) 5) 5 3)

@@ -7,7 +7,7 @@ use mathlib.Core.Path.{_≡_}
 use denote.Ref.{now}
 use Rattle.sheet_file.specs.declared.readers.Part.{Part}
 use Rattle.sheet_file.specs.declared.readers.Reader.{Reader}
-use Rattle.sheet_file.specs.Contents.{start, body}
+use Rattle.sheet_layout.specs.Contents.{start, body}
 
 abbrev pub PartAt : List ℕ → ℕ → Part → Type 0
 PartAt f i b = (b .place ≡ start f i) × (now (b .bytes) ≡ body f i)

@@ -10,8 +10,8 @@ use Rattle.refusals.specs.Told.{outcome}
 use Rattle.sheet.specs.declared.sheets.Sheet.{Sheet}
 use Rattle.sheet.specs.Nets.{Net}
 use Rattle.sheet.specs.Views.{net}
-use Rattle.sheet_file.specs.Bodies.{file-refusal}
-use Rattle.sheet_file.specs.Layout.{LaidOut}
+use Rattle.sheet_layout.specs.Bodies.{file-refusal}
+use Rattle.sheet_layout.specs.Layout.{LaidOut}
 
 pub record Reads (f : List ℕ) (r : Result Sheet Refusal) : Type 0 where
   -- the first wrong thing is told

@@ -4,20 +4,11 @@ ghost use mathlib.Core.Bool.{true, false};
 ghost use Prim.Native.Nat.{_+_, _*_, _<_, _≤_};
 ghost use lib.ListN.{length};
 ghost use Rattle.std.specs.Options.{Cases};
-ghost use Rattle.sheet_file.specs.Contents.{start, head-right, section-of, offset-of, length-of, admits, entry-right};
-use super::ENTRIES;
-use super::FIRST_BODY;
-use super::LETTERS;
-
-// What is due of a contents entry: its section, the size of an entry of its body, how long the body may be, and whether it is the last.
-#[derive(Drop)]
-pub(crate) struct Due {
-    pub(crate) section: u8,
-    pub(crate) unit: usize,
-    pub(crate) least: usize,
-    pub(crate) most: usize,
-    pub(crate) last: bool,
-}
+ghost use Rattle.sheet_layout.specs.Contents.{start, head-right, section-of, offset-of, length-of, admits, entry-right};
+use sheet_layout::Due;
+use sheet_layout::ENTRIES;
+use sheet_layout::FIRST_BODY;
+use sheet_layout::LETTERS;
 
 // A contents entry: a section, and where its body lies.
 #[derive(Clone, Copy)]
@@ -62,22 +53,20 @@ impl Entry {
             length: length as usize,
         })
     }
-}
 
-impl Due {
-    // Whether an entry is as it is due, its body being due at `from` in a file of `size` bytes.
-    fn admits(&self, entry: &Entry, from: usize, size: usize) -> bool
-        requires unit { ⌜ 0 < now self .unit ⌝ }
-        requires within { ⌜ (now entry .length < 65536) × (from < 65536) ⌝ }
-        ensures { λ r. ⌜ r ≡ admits (now (self .entry)) (now (entry .entry) .section) (now (entry .entry) .offset) (now (entry .entry) .length) from size ⌝ }
+    // Whether the entry is as it is due, its body being due at `from` in a file of `size` bytes.
+    fn is_due(&self, due: &Due, from: usize, size: usize) -> bool
+        requires unit { ⌜ 0 < now due .unit ⌝ }
+        requires within { ⌜ (now self .length < 65536) × (from < 65536) ⌝ }
+        ensures { λ r. ⌜ r ≡ admits (now (due .entry)) (now (self .entry) .section) (now (self .entry) .offset) (now (self .entry) .length) from size ⌝ }
     {
-        let end = from + entry.length;
-        entry.section == self.section
-            && entry.offset == from
-            && entry.length % self.unit == 0
-            && self.least <= entry.length
-            && entry.length <= self.most
-            && (if self.last { end == size } else { end <= size })
+        let end = from + self.length;
+        self.section == due.section
+            && self.offset == from
+            && self.length % due.unit == 0
+            && due.least <= self.length
+            && self.length <= due.most
+            && (if due.last { end == size } else { end <= size })
     }
 }
 
@@ -91,7 +80,7 @@ pub(crate) fn body_end(file: &[u8], index: usize, from: usize, due: &Due) -> Opt
     let Some(entry) = Entry::fetch(file, index) else {
         return None;
     };
-    if !due.admits(&entry, from, file.len()) {
+    if !entry.is_due(due, from, file.len()) {
         return None;
     }
     Some(from + entry.length)

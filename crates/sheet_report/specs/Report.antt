@@ -21,8 +21,8 @@ use Rattle.sets.specs.Sets.{full, members, upto}
 use Rattle.sheet.specs.declared.operators.Operator.{Operator}
 use Rattle.sheet.specs.Nets.{Net, size, row, after, before, edges-of}
 use Rattle.sheet.specs.Figures.{Sums, figures-of}
-use Rattle.sheet_file.specs.Bodies.{file-refusal}
-use Rattle.sheet_file.specs.Layout.{LaidOut}
+use Rattle.sheet_layout.specs.Bodies.{file-refusal}
+use Rattle.sheet_layout.specs.Layout.{LaidOut}
 
 abbrev pub spaced : ℕ → List ℕ
 spaced v = codes " " ++ decimal v

@@ -6,8 +6,8 @@ use Rattle.std.proofs.shelf.Results.{err-from-errBy}
 use Rattle.sheet.specs.Nets.{size, empty}
 use Rattle.sheet.specs.Changes.{changed, added}
 use Rattle.sheet.specs.Views.{net}
-use Rattle.sheet_file.specs.Bodies.{row-refusal, row-at, rows-in, with-rows, first-wrong}
-use Rattle.sheet_file.proofs.Edges.{with-rows-size, with-rows-more}
+use Rattle.sheet_layout.specs.Bodies.{row-refusal, row-at, rows-in, with-rows, first-wrong}
+use Rattle.sheet_layout.proofs.Edges.{with-rows-size, with-rows-more}
 use Rattle.sheet_file.proofs.Loading.{first-wrong-at, first-wrong-step, rows-step}
 use Rattle.sheet_file.proofs.bodies.add_rows.Needs as need
 

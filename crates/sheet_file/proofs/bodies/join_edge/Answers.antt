@@ -3,7 +3,7 @@ use mathlib.Core.List.{List, [], _∷_}
 use mathlib.Core.Path.{_≡_, ap, _∙_}
 use Rattle.sheet.specs.Changes.{join-refusal}
 use Rattle.sheet.specs.Views.{net}
-use Rattle.sheet_file.specs.Bodies.{from, to}
+use Rattle.sheet_layout.specs.Bodies.{from, to}
 use Rattle.sheet_file.proofs.Loading.{edge-told}
 use Rattle.sheet_file.proofs.bodies.join_edge.Needs as need
 

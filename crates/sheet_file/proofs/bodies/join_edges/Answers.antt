@@ -10,8 +10,8 @@ use Rattle.sheet.specs.declared.sheets.Sheet.{Sheet}
 use Rattle.sheet.specs.Nets.{Net, size}
 use Rattle.sheet.specs.Changes.{joined}
 use Rattle.sheet.specs.Views.{net}
-use Rattle.sheet_file.specs.Bodies.{from, to, with-edges, first-wrong, edge-refusal, edges-in}
-use Rattle.sheet_file.proofs.Edges.{with-edges-size}
+use Rattle.sheet_layout.specs.Bodies.{from, to, with-edges, first-wrong, edge-refusal, edges-in}
+use Rattle.sheet_layout.proofs.Edges.{with-edges-size}
 use Rattle.sheet_file.proofs.Loading.{front-pair, rest-left, rest-length, listing-so-far, edges-step, first-wrong-step, first-wrong-at}
 use Rattle.sheet_file.proofs.bodies.join_edges.Needs as need
 

@@ -4,7 +4,7 @@ use mathlib.Core.Path.{_≡_}
 use lib.ListN.{length, drop}
 use Rattle.sheet.specs.Nets.{size}
 use Rattle.sheet.specs.Views.{net}
-use Rattle.sheet_file.specs.Bodies.{first-wrong, edge-refusal, with-edges}
+use Rattle.sheet_layout.specs.Bodies.{first-wrong, edge-refusal, with-edges}
 use Rattle.sheet_file.proofs.bodies.join_edges.Given as given
 
 abbrev pub Inv-loop-left : given.InvT-loop-left

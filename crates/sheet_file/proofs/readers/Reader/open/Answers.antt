@@ -1,6 +1,6 @@
 use Prim.Native.Nat.{ℕ, _+_}
 use mathlib.Core.Path.{_≡_, refl, sym, ap, _∙_}
-use Rattle.sheet_file.specs.Contents.{start, length-of}
+use Rattle.sheet_layout.specs.Contents.{start, length-of}
 use Rattle.sheet_file.proofs.Opened.{contents-granted, part-is}
 use Rattle.sheet_file.proofs.readers.Reader.open.Needs as need
 

@@ -1,0 +1,11 @@
+pub mod Firsts
+pub mod Edges
+pub mod Heads
+pub mod Checks
+pub mod Places
+pub mod Nets
+pub mod Accepted
+pub mod Unique
+pub mod Rising
+pub mod Pairs
+pub mod Written

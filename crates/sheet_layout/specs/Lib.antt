@@ -1,0 +1,5 @@
+pub mod Contents
+pub mod Bodies
+pub mod Layout
+pub mod Written
+pub mod Laws
