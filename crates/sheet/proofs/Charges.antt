@@ -2,6 +2,7 @@
 use Prim.Native.Nat.{ℕ, _+_, _*_, _<_, _≤_}
 use mathlib.Core.Bool.{Bool, true, false, not, _&&_}
 use mathlib.Core.List.{List, [], _∷_}
+use mathlib.Core.Logic.{inl, inr}
 use mathlib.Core.Path.{_≡_, refl, sym, ap, subst, _∙_}
 use native.Mathlib.Omega.{arith}
 use native.Mathlib.Nat.{mul-le-mul-right}
@@ -11,15 +12,18 @@ use Rattle.std.specs.Orderings.{Decides}
 use Rattle.std.specs.shelf.Lists.{All, sumBy, kept-by}
 use Rattle.std.proofs.shelf.Sums.{sumBy-cons, sumBy-le}
 use Rattle.std.proofs.shelf.Elements.{all-weaker, all-from-getD}
-use Rattle.std.proofs.shelf.Tests.{and-parts, and-from, false≢true}
+use Rattle.std.proofs.shelf.Lists.{length-take-le, getD-past}
+use Rattle.std.proofs.shelf.Tests.{and-parts, and-from, false≢true, cases-lt, lt-ltb, le-ltb}
 use Rattle.sets.specs.Sets.{has, In, inside, meeting, both, members, full, upto, gathered}
-use Rattle.sets.proofs.Sets.{has-and, has-full, meeting-means, some-outside, outside-some}
-use Rattle.sets.proofs.Members.{members-few, members-kept, members-gathered, kept-all}
+use Rattle.sets.proofs.Sets.{has-and, has-none, has-full, meeting-means, some-outside, outside-some}
+use Rattle.sets.proofs.Members.{members-few, members-kept, members-gathered, has-gathered, kept-all}
 use Rattle.sheet.specs.declared.operators.Operator.{Operator}
 use Rattle.sheet.specs.declared.operators.Figure.{Figure}
 use Rattle.sheet.specs.declared.operators.Figure.the-variants.{Acc, Cpu, Size, Link}
 use Rattle.sheet.specs.Rules.{most-sum, most-figure, Within, Modest}
-use Rattle.sheet.specs.Nets.{Net, size, row, after}
+use Rattle.sheet.specs.Nets.{Net, size, row, after, before}
+use Rattle.sheet.specs.declared.sheets.Sheet.{Sheet}
+use Rattle.sheet.specs.Views.{net}
 use Rattle.sheet.specs.Figures.{Sums, figure-of, charged, Charging}
 
 figure-le : (w : Figure) (o : Operator) → Within o → figure-of w o ≤ most-figure
@@ -93,3 +97,16 @@ charging n m u = (
     λ h. and-from (has m u) (not (inside (after n u) m)) (h .0) (ap not (outside-some (after n u) m (h .1 .0) (h .1 .1 .0) (h .1 .1 .1))),
   ),
 )
+
+-- ---- the operators before one
+
+pub masks-front : (s : Sheet) → length (net s .successors) ≤ size (net s)
+masks-front s =
+    omega (arith, s .few, s .tables .0, s .tables .1, length-take-le (s .operators) (s .successors) (omega (arith, s .few, s .tables .1)), length-take-le (s .operators) (s .rows) (omega (arith, s .few, s .tables .0)))
+
+-- no edge leads from a number without operator
+pub before-means : (n : Net) (v u : ℕ) → length (n .successors) ≤ size n → has (before n v) u ≡ has (after n u) v
+before-means n v u masks = has-gathered (λ x. has (after n x) v) (size n) u ∙ elim (cases-lt u (size n)) [
+  | inl near ↦ ap (λ (b : Bool). b && has (after n u) v) (lt-ltb u (size n) near)
+  | inr far ↦ ap (λ (b : Bool). b && has (after n u) v) (le-ltb u (size n) far) ∙ sym (ap (λ (m : ℕ). has m v) (getD-past (n .successors) u 0 (omega arith)) ∙ has-none v)
+]

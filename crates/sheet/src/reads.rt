@@ -1,10 +1,10 @@
 // What a sheet says.
 ghost use mathlib.Core.Path.{_≡_};
-ghost use Prim.Native.Nat.{_<_, _≤_};
+ghost use Prim.Native.Nat.{ℕ, _<_, _≤_};
 ghost use lib.ListN.{length};
 ghost use Rattle.std.specs.Options.{Cases};
 ghost use Rattle.std.specs.shelf.Lists.{sumBy};
-ghost use Rattle.sets.specs.Sets.{full, members, upto};
+ghost use Rattle.sets.specs.Sets.{has, full};
 ghost use Rattle.sheet.specs.Nets.{size, row, after, before, edges-of};
 ghost use Rattle.sheet.specs.Kept.{Kept};
 ghost use Rattle.sheet.specs.Views.{net};
@@ -50,7 +50,8 @@ impl Sheet {
 
     // The operators that have an edge to `v`.
     pub fn predecessors(&self, v: usize) -> u64
-        ensures { λ r. ⌜ r ≡ before (net (now (self .entry))) v ⌝ }
+        ensures value { λ r. ⌜ r ≡ before (net (now (self .entry))) v ⌝ }
+        ensures means { λ r. ⌜ ((u : ℕ) → has r u ≡ has (after (net (now (self .entry))) u) v) ⌝ }
     {
         let mut set = 0;
         for u in 0..self.operators {

@@ -133,8 +133,8 @@ fn join_edges(sheet: &mut Sheet, body: &[u8]) -> Result<(), Refusal>
 {
     let mut i: usize = 0;
     let mut left = body;
-    while let [source, target, rest @ ..] = left {
-        join_edge(sheet, body, i, *source, *target)?;
+    while let [from, to, rest @ ..] = left {
+        join_edge(sheet, body, i, *from, *to)?;
         i += 1;
         left = rest;
     }

@@ -10,9 +10,8 @@ pub fn load(file: &[u8]) -> Result<Sheet, Refusal>
     ensures { λ r. ⌜ Reads (now (file .entry)) r ⌝ }
 {
     let reader = Reader::open(file)?;
-    build(
-        reader.operators().bytes,
-        reader.edges().bytes,
-        reader.counts().bytes,
-    )
+    let operators = reader.operators();
+    let edges = reader.edges();
+    let counts = reader.counts();
+    build(operators.bytes, edges.bytes, counts.bytes)
 }

@@ -1,5 +1,5 @@
 use Rattle.sets.proofs.Sets.{same-means, has-or, has-and, has-difference, has-including, has-full, inside-means, meeting-means}
-use Rattle.sets.proofs.Members.{ones-members}
+use Rattle.sets.proofs.Members.{ones-members, has-gathered}
 use Rattle.sets.proofs.laws_stand.Needs as need
 
 pub returns : need.returns
@@ -10,6 +10,7 @@ returns c s t small few = record {
   in-without = λ v. has-difference s t v small few;
   in-including = has-including s;
   in-full = has-full;
+  in-gathered = has-gathered;
   all-inside = inside-means s t;
   some-meet = meeting-means s t;
   counted = ones-members s small;

@@ -8,6 +8,7 @@ use Rattle.sets.proofs.Members.{gathered-none, gathered-yes, gathered-no}
 use Rattle.sets.specs.Sets.{has}
 use Rattle.sheet.specs.Nets.{after, size}
 use Rattle.sheet.specs.Views.{net}
+use Rattle.sheet.proofs.Charges.{before-means, masks-front}
 use Rattle.sheet.proofs.sheets.Sheet.predecessors.Needs as need
 use Rattle.sheet.proofs.sheets.Sheet.predecessors.Needs.{then-holds, else-holds}
 
@@ -26,5 +27,7 @@ loop-u-again c =
 pub returns : need.returns
 returns c =
     let s = c .args .self .now in
-    let end : c .loop-u .u ≡ size (net s) = omega (arith, length-take-le (s .operators) (s .rows) (omega arith)) in
-    c .loop-u .inv ∙ ap (gathered (λ x. has (after (net (c .args .self .now)) x) (c .args .v))) end
+    let n = net s in
+    let end : c .loop-u .u ≡ size n = omega (arith, length-take-le (s .operators) (s .rows) (omega arith)) in
+    let is = c .loop-u .inv ∙ ap (gathered (λ x. has (after n x) (c .args .v))) end in
+    record { value = is; means = λ u. ap (λ (m : ℕ). has m u) is ∙ before-means n (c .args .v) u (masks-front s) }
