@@ -6,8 +6,8 @@ use std::io::Read;
 
 const USUAL_LIMIT: u32 = 1_000_000;
 
-// The limit that the first argument says.
-fn limit(rt: &LibcRuntime) -> Result<u32, AnyError> {
+// The limit that the first argument says, or the usual one.
+fn asked_limit(rt: &LibcRuntime) -> Result<u32, AnyError> {
     match env::args(rt)?.nth(1) {
         Some(text) => Ok(text.parse::<u32>()?),
         None => Ok(USUAL_LIMIT),
@@ -15,7 +15,7 @@ fn limit(rt: &LibcRuntime) -> Result<u32, AnyError> {
 }
 
 fn run(rt: &LibcRuntime) -> Result<(), AnyError> {
-    let limit = limit(rt)?;
+    let limit = asked_limit(rt)?;
     let mut file = Vec::new(rt.alloc());
     rt.stdin().read_to_end(&mut file)?;
     let text = report(rt.alloc(), &file, limit)?;
