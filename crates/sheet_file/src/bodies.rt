@@ -11,15 +11,15 @@ ghost use Rattle.sheet.specs.Changes.{changed, added, joined, counted};
 ghost use Rattle.sheet.specs.Views.{net};
 ghost use Rattle.sheet_layout.specs.Bodies.{row-at, from, to, ascends, first-wrong, row-refusal, edge-refusal, counts-refusal, rows-in, edges-in, with-rows, with-edges, bodies-refusal, net-of-bodies};
 ghost use Rattle.sheet_file.specs.Loading.{edge-reason, Listing};
+use refusals::Reason;
+use refusals::Refusal;
+use sheet::Operator;
+use sheet::Sheet;
 use sheet_layout::COUNTS;
 use sheet_layout::EDGE_SIZE;
 use sheet_layout::EDGES;
 use sheet_layout::OPERATOR_SIZE;
 use sheet_layout::OPERATORS;
-use refusals::Reason;
-use refusals::Refusal;
-use sheet::Operator;
-use sheet::Sheet;
 
 // The figure of four bytes from a place.
 fn figure(body: &[u8], at: usize) -> u32

@@ -4,17 +4,17 @@ ghost use Rattle.std.specs.Vec.{made};
 ghost use Rattle.refusals.specs.Told.{outcome};
 ghost use Rattle.sheet_layout.specs.Contents.{contents-refusal};
 ghost use Rattle.sheet_file.specs.Opened.{Opened};
+use super::contents::body_end;
+use super::contents::is_sheet_file;
+use refusals::Refusal;
 use sheet_layout::COUNTS;
 use sheet_layout::COUNTS_SIZE;
+use sheet_layout::Due;
 use sheet_layout::EDGE_SIZE;
 use sheet_layout::EDGES;
 use sheet_layout::FIRST_BODY;
 use sheet_layout::OPERATOR_SIZE;
 use sheet_layout::OPERATORS;
-use sheet_layout::Due;
-use super::contents::body_end;
-use super::contents::is_sheet_file;
-use refusals::Refusal;
 
 // A part of a file, and where in the file it begins.
 #[derive(Clone, Copy)]

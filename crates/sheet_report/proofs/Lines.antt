@@ -4,6 +4,8 @@ use mathlib.Core.List.{List, _∷_, _++_, append-nil, append-assoc}
 use mathlib.Core.Path.{_≡_, sym, ap, subst, _∙_}
 use native.Mathlib.Numerals.{add-one}
 use Rattle.std.proofs.shelf.Lists.{joined-more}
+use Rattle.std.specs.declared.option.Option.{Option}
+use Rattle.std.specs.declared.option.Option.the-variants.{Some}
 use Rattle.std.specs.declared.result.Result.{Result}
 use Rattle.std.specs.shelf.Lists.{joined}
 use Rattle.std.specs.Vec.{made}
@@ -12,7 +14,10 @@ use Rattle.sets.specs.Sets.{full, members, upto}
 use Rattle.sheet.specs.declared.operators.Operator.{Operator}
 use Rattle.sheet.specs.Nets.{Net, size, row, after, before}
 use Rattle.sheet.specs.Figures.{Sums, figures-of}
-use Rattle.sheet_report.specs.Report.{row-figures, neighbours, row-line, stage-line, network-line}
+use Rattle.device.specs.declared.loads.Load.{Load}
+use Rattle.device.specs.Loads.{PlainLoad}
+use Rattle.device.specs.Views.{load-of, answered}
+use Rattle.sheet_report.specs.Report.{row-figures, neighbours, row-line, load-figures, ratings, load-line, stage-lines, network-lines}
 
 -- `was` is the text before, and `now` is the text after
 module _ {T E : Type 0} (r : Result T E) (was now : List ℕ) where
@@ -21,7 +26,7 @@ module _ {T E : Type 0} (r : Result T E) (was now : List ℕ) where
   made-is a b same = subst (λ (l : List ℕ). made r (λ _. now ≡ was ++ l)) same
 
   -- a piece, and then the rest
-  made-then : (t a rest : List ℕ) → t ≡ was ++ a → made r (λ _. now ≡ t ++ rest) → made r (λ _. now ≡ was ++ (a ++ rest))
+  pub made-then : (t a rest : List ℕ) → t ≡ was ++ a → made r (λ _. now ≡ t ++ rest) → made r (λ _. now ≡ was ++ (a ++ rest))
   made-then t a rest adds = subst (λ (l : List ℕ). made r (λ _. now ≡ l)) (ap (λ (l : List ℕ). l ++ rest) adds ∙ append-assoc was a rest)
 
 pub then-three : {T E : Type 0} (r : Result T E) (was t u now a b c : List ℕ) → t ≡ was ++ a → u ≡ t ++ b → made r (λ _. now ≡ u ++ c) → made r (λ _. now ≡ was ++ (a ++ (b ++ c)))
@@ -63,6 +68,16 @@ row-made r n v o p s was t now is sources targets first last =
     ∙ ap (λ (m : ℕ). decimal v ++ (row-figures (row n v) ++ neighbours (members (before n v)) (members m))) targets in
     made-is r was now (front ++ end) (row-line n v) same (made-then r was now t front end first last)
 
--- the line of the network is that of its stage
-pub network-same : (n : Net) (s : Sums) (m : ℕ) → m ≡ full (size n) → s ≡ figures-of n m → stage-line s ≡ network-line n
-network-same n s m all is = ap stage-line (is ∙ ap (figures-of n) all)
+-- the line of an answer is that of what was answered
+pub answer-made : {T E : Type 0} (r : Result T E) (a b : Option PlainLoad) (was now : List ℕ) → a ≡ b → made r (λ _. now ≡ was ++ load-line a) → made r (λ _. now ≡ was ++ load-line b)
+answer-made r a b was now is = made-is r was now (load-line a) (load-line b) (ap load-line is)
+
+-- a load that was answered, written in two steps
+pub load-made : {T E : Type 0} (r : Result T E) (a : Option PlainLoad) (x : Load) (was t now : List ℕ)
+    → answered (Some x) ≡ a → t ≡ was ++ load-figures (load-of x) → made r (λ _. now ≡ t ++ ratings (load-of x)) → made r (λ _. now ≡ was ++ load-line a)
+load-made r a x was t now is first last =
+    answer-made r (answered (Some x)) a was now is (made-then r was now t (load-figures (load-of x)) (ratings (load-of x)) first last)
+
+-- the lines of the network are those of its stage
+pub network-same : (M : ℕ) (n : Net) (s : Sums) (m : ℕ) → m ≡ full (size n) → s ≡ figures-of n m → stage-lines M s ≡ network-lines M n
+network-same M n s m all is = ap (stage-lines M) (is ∙ ap (figures-of n) all)

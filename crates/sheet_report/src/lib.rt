@@ -7,10 +7,27 @@ ghost use Rattle.std.specs.Vec.{made};
 ghost use Rattle.std.specs.shelf.Lists.{joined};
 ghost use Rattle.sets.specs.Sets.{members};
 ghost use Rattle.sheet.specs.Nets.{size};
-ghost use Rattle.sheet.specs.Views.{net};
-ghost use Rattle.sheet_report.specs.Report.{spaced, listed, summary, neighbours, row-line, row-lines, network-line, described, Reported};
+ghost use Rattle.sheet.specs.Views.{net, sums};
+ghost use Rattle.refusals.specs.Told.{told};
+ghost use Rattle.device.specs.Views.{load-of};
+ghost use Rattle.sheet_report.specs.Report.{spaced, listed, summary, neighbours, row-line, row-lines, stage-line, ratings, load-line, accelerator-line, processor-line, network-lines, described, refused-line, Reported};
+use device::Accelerator;
+use device::AcceleratorKind;
+use device::Kind;
+use device::Load;
+use device::Processor;
+use device::ProcessorKind;
+use refusals::Refusal;
 use refusals::RefusalDisplay;
+use scale::Line;
+use scale::LineScale;
+use scale::Pair;
+use scale::PairScale;
+use scale::Peak;
+use scale::PeakScale;
+use scale::Scale;
 use sheet::Sheet;
+use sheet::StageFigures;
 use std::alloc::AllocError;
 use std::alloc::Global;
 use std::fmt;
@@ -84,11 +101,10 @@ fn put_rows(text: &mut String, sheet: &Sheet) -> fmt::Result
     Ok(())
 }
 
-// Appends the line of all operators as one stage.
-fn put_network(text: &mut String, sheet: &Sheet) -> fmt::Result
-    ensures { λ r. ⌜ made r (λ _. string-bytes (now (text .exit)) ≡ string-bytes (now (text .entry)) ++ network-line (net (now (sheet .entry)))) ⌝ }
+// Appends the line of a stage's figures.
+fn put_figures(text: &mut String, stage: &StageFigures) -> fmt::Result
+    ensures { λ r. ⌜ made r (λ _. string-bytes (now (text .exit)) ≡ string-bytes (now (text .entry)) ++ stage-line (sums (now (stage .entry)))) ⌝ }
 {
-    let stage = sheet.figures(sheet.all());
     writeln!(
         text,
         "network: acc {} cpu {} size {} in {} out {}",
@@ -96,34 +112,106 @@ fn put_network(text: &mut String, sheet: &Sheet) -> fmt::Result
     )
 }
 
+// Appends what a load rates on each scale, and ends the line.
+fn put_ratings(text: &mut String, load: &Load) -> fmt::Result
+    ensures { λ r. ⌜ made r (λ _. string-bytes (now (text .exit)) ≡ string-bytes (now (text .entry)) ++ ratings (load-of (now (load .entry)))) ⌝ }
+{
+    let peak = Peak.join(Peak.start(), load);
+    let line = Line.join(Line.start(), load);
+    let pair = Pair.join(Pair.start(), load);
+    writeln!(
+        text,
+        ", peak {peak} line {line} pair {} {}",
+        pair.ticks, pair.link
+    )
+}
+
+// Appends what a device kind answers for a stage, and ends the line.
+fn put_load<K: Kind>(text: &mut String, kind: &K, stage: &StageFigures) -> fmt::Result
+    ensures { λ r. ⌜ made r (λ _. string-bytes (now (text .exit)) ≡ string-bytes (now (text .entry)) ++ load-line (K·Kind .meaning (now (kind .entry)) (sums (now (stage .entry))))) ⌝ }
+{
+    let Some(load) = kind.load(stage) else {
+        return writeln!(text, "does not fit");
+    };
+    write!(text, "ticks {} link {}", load.ticks, load.link)?;
+    put_ratings(text, &load)
+}
+
+// Appends the line of a stage on an accelerator.
+fn put_accelerator(
+    text: &mut String,
+    accelerator: &Accelerator,
+    stage: &StageFigures,
+) -> fmt::Result
+    ensures { λ r. ⌜ made r (λ _. string-bytes (now (text .exit)) ≡ string-bytes (now (text .entry)) ++ accelerator-line (now (accelerator .entry) .limit) (sums (now (stage .entry)))) ⌝ }
+{
+    let limit = accelerator.limit();
+    write!(text, "accelerator {limit}: ")?;
+    put_load(text, accelerator, stage)
+}
+
+// Appends the line of a stage on a processor.
+fn put_processor(text: &mut String, stage: &StageFigures) -> fmt::Result
+    ensures { λ r. ⌜ made r (λ _. string-bytes (now (text .exit)) ≡ string-bytes (now (text .entry)) ++ processor-line (sums (now (stage .entry)))) ⌝ }
+{
+    write!(text, "processor: ")?;
+    put_load(text, &Processor, stage)
+}
+
+// Appends the lines of all operators as one stage.
+fn put_network(text: &mut String, sheet: &Sheet, accelerator: &Accelerator) -> fmt::Result
+    ensures { λ r. ⌜ made r (λ _. string-bytes (now (text .exit)) ≡ string-bytes (now (text .entry)) ++ network-lines (now (accelerator .entry) .limit) (net (now (sheet .entry)))) ⌝ }
+{
+    let stage = sheet.figures(sheet.all());
+    put_figures(text, &stage)?;
+    put_accelerator(text, accelerator, &stage)?;
+    put_processor(text, &stage)
+}
+
 // Appends all that is reported of a sheet.
-fn put_sheet(text: &mut String, sheet: &Sheet) -> fmt::Result
-    ensures { λ r. ⌜ made r (λ _. string-bytes (now (text .exit)) ≡ string-bytes (now (text .entry)) ++ described (net (now (sheet .entry)))) ⌝ }
+fn put_sheet(text: &mut String, sheet: &Sheet, accelerator: &Accelerator) -> fmt::Result
+    ensures { λ r. ⌜ made r (λ _. string-bytes (now (text .exit)) ≡ string-bytes (now (text .entry)) ++ described (now (accelerator .entry) .limit) (net (now (sheet .entry)))) ⌝ }
 {
     put_summary(text, sheet)?;
     put_rows(text, sheet)?;
-    put_network(text, sheet)
+    put_network(text, sheet, accelerator)
 }
 
 // The report on a sheet.
-pub fn describe(heap: Global, sheet: &Sheet) -> Result<String, AllocError>
-    ensures { λ r. ⌜ made r (λ t. string-bytes t ≡ described (net (now (sheet .entry)))) ⌝ }
+pub fn describe(
+    heap: Global,
+    sheet: &Sheet,
+    accelerator: &Accelerator,
+) -> Result<String, AllocError>
+    ensures { λ r. ⌜ made r (λ t. string-bytes t ≡ described (now (accelerator .entry) .limit) (net (now (sheet .entry)))) ⌝ }
 {
     let mut text = String::new(heap);
-    match put_sheet(&mut text, sheet) {
+    match put_sheet(&mut text, sheet, accelerator) {
         Ok(()) => Ok(text),
         // the text found no memory
         Err(_) => Err(AllocError),
     }
 }
 
-// The report on a sheet file: what it says, or why it is refused.
-pub fn report(heap: Global, file: &[u8]) -> Result<String, AllocError>
-    ensures { λ r. ⌜ made r (λ t. Reported (now (file .entry)) (string-bytes t)) ⌝ }
+// The report on what is refused.
+fn refuse(heap: Global, refusal: Refusal) -> Result<String, AllocError>
+    ensures { λ r. ⌜ made r (λ t. string-bytes t ≡ refused-line (told refusal)) ⌝ }
 {
+    format!(heap, "refused {refusal}\n")
+}
+
+// The report on a sheet file: what it says, and what an accelerator with a limit and a processor answer for it, or why the
+// limit or the file is refused.
+pub fn report(heap: Global, file: &[u8], limit: u32) -> Result<String, AllocError>
+    ensures { λ r. ⌜ made r (λ t. Reported limit (now (file .entry)) (string-bytes t)) ⌝ }
+{
+    let accelerator = match Accelerator::new(limit) {
+        Ok(accelerator) => accelerator,
+        Err(refusal) => return refuse(heap, refusal),
+    };
     match sheet_file::load(file) {
-        Ok(sheet) => describe(heap, &sheet),
-        Err(refusal) => format!(heap, "refused {refusal}\n"),
+        Ok(sheet) => describe(heap, &sheet, &accelerator),
+        Err(refusal) => refuse(heap, refusal),
     }
 }
 
@@ -145,7 +233,7 @@ mod tests {
 
     const FIRST_EDGE: usize = 84;
 
-    const TEXT: &str = "operators 4\n\
+    const DESCRIPTION: &str = "operators 4\n\
         edges 4\n\
         counts 2 0\n\
         0: acc 2 cpu 6 size 1 link 1, predecessors none, successors 1 2\n\
@@ -154,10 +242,35 @@ mod tests {
         3: acc 2 cpu 5 size 1 link 1, predecessors 1 2, successors none\n\
         network: acc 11 cpu 28 size 6 in 0 out 0\n";
 
+    const PROCESSOR: &str = "processor: ticks 28 link 0, peak 28 line 28 pair 28 0\n";
+
+    fn check_diamond(heap: Global, limit: u32, line: &str) -> Result<(), Fail> {
+        let text = report(heap, DIAMOND, limit)?;
+        let expected = format!(heap, "{DESCRIPTION}{line}{PROCESSOR}")?;
+        check_eq(text.as_str(), expected.as_str())
+    }
+
     #[test]
-    fn reports_the_diamond(rt: LibcRuntime) -> Result<(), Fail> {
-        let text = report(rt.alloc(), DIAMOND)?;
-        check_eq(text.as_str(), TEXT)
+    fn reports_a_network_that_fits(rt: LibcRuntime) -> Result<(), Fail> {
+        let line = "accelerator 6: ticks 11 link 0, peak 11 line 11 pair 11 0\n";
+        check_diamond(rt.alloc(), 6, line)
+    }
+
+    #[test]
+    fn reports_a_network_that_does_not_fit(rt: LibcRuntime) -> Result<(), Fail> {
+        check_diamond(rt.alloc(), 5, "accelerator 5: does not fit\n")
+    }
+
+    #[test]
+    fn reports_on_the_largest_accelerator(rt: LibcRuntime) -> Result<(), Fail> {
+        let line = "accelerator 1000000000: ticks 11 link 0, peak 11 line 11 pair 11 0\n";
+        check_diamond(rt.alloc(), 1_000_000_000, line)
+    }
+
+    #[test]
+    fn reports_a_limit_that_is_refused(rt: LibcRuntime) -> Result<(), Fail> {
+        let text = report(rt.alloc(), DIAMOND, 1_000_000_001)?;
+        check_eq(text.as_str(), "refused 1\n")
     }
 
     #[test]
@@ -165,7 +278,7 @@ mod tests {
         let mut file = *DIAMOND;
         file[FIRST_EDGE] = 2;
         file[FIRST_EDGE + 1] = 1;
-        let text = report(rt.alloc(), &file)?;
+        let text = report(rt.alloc(), &file, 6)?;
         check_eq(text.as_str(), "refused 14 2 0 4\n")
     }
 }

@@ -67,13 +67,17 @@ fn every_length_to_30() -> Result<(), Fail> {
         };
         check_eq(refusal(&DIAMOND[0..n]), due)?;
     }
-    for n in 0..22 {
+    let mut longer = [0; 31];
+    longer[0..22].copy_from_slice(&EMPTY);
+    for n in 0..31 {
         let due = if n < 20 {
             Some(Refusal::NotASheetFile)
+        } else if n == 22 {
+            None
         } else {
             contents(2)
         };
-        check_eq(refusal(&EMPTY[0..n]), due)?;
+        check_eq(refusal(&longer[0..n]), due)?;
     }
     Ok(())
 }
@@ -95,6 +99,25 @@ fn contents_entries() -> Result<(), Fail> {
     check_eq(damaged(16, 91), contents(2))?;
     check_eq(damaged(18, 0), contents(2))?;
     check_eq(damaged(18, 4), contents(2))
+}
+
+#[test]
+fn high_bytes_of_contents_entries() -> Result<(), Fail> {
+    check_eq(damaged(12, 1), contents(1))?;
+    check_eq(damaged(17, 1), contents(2))?;
+    check_eq(damaged(19, 1), contents(2))
+}
+
+#[test]
+fn the_counts_have_two_bytes() -> Result<(), Fail> {
+    let mut longer = [0; 96];
+    longer[0..94].copy_from_slice(&DIAMOND);
+    longer[18] = 4;
+    check_eq(refusal(&longer), contents(2))?;
+    let mut shorter = [0; 92];
+    shorter.copy_from_slice(&DIAMOND[0..92]);
+    shorter[18] = 0;
+    check_eq(refusal(&shorter), contents(2))
 }
 
 #[test]
@@ -148,6 +171,13 @@ fn pairs_of_operators() -> Result<(), Fail> {
         twice_damaged(90, 0, 91, 3),
         body(2, 3, Reason::NotAscending),
     )
+}
+
+#[test]
+fn checks_of_one_pair_in_their_order() -> Result<(), Fail> {
+    check_eq(twice_damaged(90, 0, 91, 9), body(2, 3, Reason::NoOperator))?;
+    check_eq(twice_damaged(86, 0, 87, 0), body(2, 1, Reason::NotUpward))?;
+    check_eq(twice_damaged(90, 9, 91, 0), body(2, 3, Reason::NoOperator))
 }
 
 #[test]

@@ -1,8 +1,10 @@
 // Files at the limits of their sections, laid out byte by byte.
 use super::faults::refusal;
+use super::samples::DIAMOND;
 use refusals::Refusal;
 use refusals::RefusalDebug;
 use refusals::RefusalPartialEq;
+use sheet_file::Reader;
 use sheet_file::load;
 use std::test::*;
 
@@ -88,4 +90,16 @@ fn the_fullest_sheet_is_read_whole() -> Result<(), Fail> {
     check_eq(sheet.successors(0), u64::MAX - 1)?;
     check_eq(sheet.predecessors(63), u64::MAX >> 1)?;
     check_eq(sheet.counts(), (8, 8))
+}
+
+#[test]
+fn a_reader_hands_out_the_bodies_with_their_places() -> Result<(), Fail> {
+    let reader = Reader::open(&DIAMOND)?;
+    check_eq(reader.file().len(), 94)?;
+    check_eq(reader.operators().place, 20)?;
+    check_eq(reader.operators().bytes, &DIAMOND[20..84])?;
+    check_eq(reader.edges().place, 84)?;
+    check_eq(reader.edges().bytes, &[0, 1, 0, 2, 1, 3, 2, 3])?;
+    check_eq(reader.counts().place, 92)?;
+    check_eq(reader.counts().bytes, &[2, 0])
 }

@@ -68,7 +68,7 @@ fn figures_to_a_million() -> Result<(), Fail> {
         Err(Refusal::AboveLimit),
     )?;
     check_eq(
-        sheet.add(operator(0, 0, 0, u32::MAX)),
+        sheet.add(operator(0, 0, 0, 1_000_001)),
         Err(Refusal::AboveLimit),
     )?;
     check_eq(sheet.operators(), 1)

@@ -9,6 +9,9 @@ ghost use Rattle.sets.specs.Sets.{members};
 ghost use Rattle.sheet.specs.Views.{net};
 ghost use Rattle.sheet_layout.specs.Written.{entry-bytes, row-bytes, pair-bytes, rows-bytes, edges-bytes, head-bytes, file-of};
 ghost use Rattle.sheet_writer.specs.Writes.{Writes, Keeps};
+use refusals::Refusal;
+use sheet::Operator;
+use sheet::Sheet;
 use sheet_layout::COUNTS;
 use sheet_layout::COUNTS_SIZE;
 use sheet_layout::EDGE_SIZE;
@@ -18,9 +21,6 @@ use sheet_layout::FIRST_BODY;
 use sheet_layout::LETTERS;
 use sheet_layout::OPERATOR_SIZE;
 use sheet_layout::OPERATORS;
-use refusals::Refusal;
-use sheet::Operator;
-use sheet::Sheet;
 
 // Writes `part` at the place `at`, where there is room for it, and answers the place after it.
 fn put(buffer: &mut [u8], at: usize, part: &[u8]) -> usize

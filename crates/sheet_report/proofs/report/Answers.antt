@@ -6,9 +6,12 @@ use Rattle.sheet_report.specs.Report.{described, Reported}
 use Rattle.sheet_report.proofs.Reports.{reported-sheet}
 use Rattle.sheet_report.proofs.report.Needs as need
 
-pub returns-in-Ok : need.returns-in-Ok
-returns-in-Ok c =
+pub returns-in-Ok-load : need.returns-in-Ok-load
+returns-in-Ok-load c =
+    let M = c .args .limit in
+    let m = c .in-Ok .accelerator .limit in
     let f = c .args .file .now in
-    let s = c .in-Ok .sheet in
-    made-weaker (c .describe .result) (λ t. string-bytes t ≡ described (net s)) (λ t. Reported f (string-bytes t))
-    (λ t is. reported-sheet f s (string-bytes t) (c .in-Ok .ensures tt) is) (c .describe .ensures)
+    let s = c .in-Ok-load .sheet in
+    let new = c .in-Ok .ensures tt in
+    made-weaker (c .describe .result) (λ t. string-bytes t ≡ described m (net s)) (λ t. Reported M f (string-bytes t))
+    (λ t is. reported-sheet M m f s (string-bytes t) (new .refuses) (new .makes) (c .in-Ok-load .ensures tt) is) (c .describe .ensures)

@@ -19,14 +19,14 @@ build-requires c κs =
     let f = c .args .file .now in
     let opened = c .in-Continue-reader .ensures tt .opens in
     let sizes = body-sizes f (c .in-Continue-reader .ensures tt .refuses) in
-    let operators = ap length (c .operators .ensures .1 ∙ opened .operators .1) in
-    let counts = ap length (c .counts .ensures .1 ∙ opened .counts .1) in
+    let operators = ap length (c .operators-operators .ensures .1 ∙ opened .operators .1) in
+    let counts = ap length (c .counts-counts .ensures .1 ∙ opened .counts .1) in
     record { within = (omega (arith, operators, sizes .0), counts ∙ sizes .1) }
 
 pub returns : need.returns
 returns c =
     let f = c .args .file .now in
     let opened = c .in-Continue-reader .ensures tt .opens in
-    reads-bodies f (c .operators .result .bytes .now) (c .edges .result .bytes .now) (c .counts .result .bytes .now) (c .build .result)
-    (c .in-Continue-reader .ensures tt .refuses) (c .operators .ensures .1 ∙ opened .operators .1) (c .edges .ensures .1 ∙ opened .edges .1) (c .counts .ensures .1 ∙ opened .counts .1)
+    reads-bodies f (c .operators-operators .result .bytes .now) (c .edges-edges .result .bytes .now) (c .counts-counts .result .bytes .now) (c .build .result)
+    (c .in-Continue-reader .ensures tt .refuses) (c .operators-operators .ensures .1 ∙ opened .operators .1) (c .edges-edges .ensures .1 ∙ opened .edges .1) (c .counts-counts .ensures .1 ∙ opened .counts .1)
     (c .build .ensures .refuses) (c .build .ensures .reads)
