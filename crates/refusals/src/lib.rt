@@ -21,11 +21,11 @@ pub enum Refusal {
     AboveLimit,
     // the sheet has all the operators that it can hold
     SheetFull,
-    // no operator has that number
+    // the number is not below the number of operators
     NoOperator,
-    // the edge does not lead to a higher number
+    // the edge would lead to the same or a lower number
     NotUpward,
-    // the edge is there already
+    // the sheet has this edge
     EdgeExists,
     // a count is above its limit
     CountAboveLimit,
@@ -39,7 +39,7 @@ pub enum Refusal {
         entry: usize,
         reason: Reason,
     },
-    // the buffer is too short for what is to be written
+    // the buffer has fewer bytes than what is to go there
     BufferTooShort,
 }
 

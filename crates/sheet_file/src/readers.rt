@@ -1,4 +1,4 @@
-// A reader over a borrowed sheet file, which shows each body as the part of the file that it is.
+// A reader over a borrowed sheet file. Its bodies are slices of the file, handed out with their places.
 ghost use mathlib.Core.Path.{_≡_};
 ghost use Rattle.std.specs.Vec.{made};
 ghost use Rattle.refusals.specs.Told.{outcome};

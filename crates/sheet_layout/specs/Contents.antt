@@ -1,7 +1,7 @@
 -- The head of a sheet file: four letters, the number of contents entries, and the entries.
 --   section-of f i, offset-of f i, length-of f i   the three fields of the contents entry with index i
 --   dues               what is due of each entry: its section, the size of a body entry, the least and the greatest length, and whether it is the last
---   start f i          where the body of entry i is due: the first after the contents, each next where the one before ends
+--   start f i          where the body of entry i is due: right after the contents, or right after the body before
 --   body f i           the part of the file that entry i names
 --   head-refusal f     what is told of a file that does not begin as a sheet file does
 --   entries-refusal    what is told of the first wrong contents entry, from the index i on
