@@ -14,4 +14,4 @@ returns c =
     let found = cases-at-some (size n ≤ v) (λ o. (v < size n) × (o .now ≡ row n v)) (c .unwrap-operator .result) (c .unwrap-operator .ensures) (c .row .ensures) in
     row-made (c .put-neighbours .result) n v (c .unwrap-operator .result .now) (c .predecessors .result) (c .successors .result)
     (string-bytes (c .args .text .now)) (string-bytes (c .write .last .self)) (string-bytes (c .put-neighbours .last .text))
-    (found .1) (c .predecessors .ensures) (c .successors .ensures) (c .in-Continue-write .ensures tt .bytes) (c .put-neighbours .ensures)
+    (found .1) (c .predecessors .ensures .value) (c .successors .ensures) (c .in-Continue-write .ensures tt .bytes) (c .put-neighbours .ensures)
