@@ -1,4 +1,6 @@
 // The cells of the two tables: a rating and a choice each. A row has the cells of one ideal.
+#![tactic(auto)]
+
 mod cells;
 mod choices;
 mod counts;

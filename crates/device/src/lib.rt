@@ -1,4 +1,6 @@
 // Device kinds: what each answers for a stage's figures.
+#![tactic(auto)]
+
 mod accelerators;
 mod kinds;
 mod loads;

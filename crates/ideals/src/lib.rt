@@ -1,4 +1,6 @@
 // The ideals of a sheet's network, listed by ascending mask.
+#![tactic(auto)]
+
 ghost use Rattle.std.specs.Prelude.{◌≡◌, ℕ, ◌^◌, ◌<◌, ◌≤◌, ◌++◌, length, take, slice_index};
 ghost use Rattle.sheet.specs.Views.{net};
 ghost use Rattle.ideals.specs.Cases.{Cases};

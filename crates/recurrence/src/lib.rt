@@ -1,4 +1,6 @@
 // The recurrence over the ideals of a network, and that it finds a least split.
+#![tactic(auto)]
+
 ghost use Rattle.sheet.specs.Views.{net};
 ghost use Rattle.split.specs.Splits.{kinds};
 ghost use Rattle.recurrence.specs.Cases.{Cases};

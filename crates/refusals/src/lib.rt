@@ -1,4 +1,6 @@
 // Why a call is refused: one case for each cause, and the number and values by which it is told.
+#![tactic(auto)]
+
 ghost use Rattle.std.specs.Prelude.{◌≡◌, Some, slice_index};
 ghost use Rattle.refusals.specs.Told.{told, told_reason, spelled};
 

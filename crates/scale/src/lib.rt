@@ -1,4 +1,6 @@
 // Scales: how splits are rated, and how ratings compare.
+#![tactic(auto)]
+
 mod lines;
 mod pairs;
 mod peaks;

@@ -1,4 +1,6 @@
 // Sets of operators as masks of 64 bits: bit `v` of a mask stands for operator `v`.
+#![tactic(auto)]
+
 ghost use Rattle.std.specs.Prelude.{◌≡◌, min, [], ◌∷◌, length, if◌then◌else◌, MatchOption, nat_lt};
 ghost use Rattle.sets.specs.Sets.{has, inside, meeting, either, both, without, including, full, members};
 ghost use Rattle.sets.specs.Laws.{LawsStand};

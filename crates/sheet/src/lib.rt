@@ -1,4 +1,6 @@
 // A sheet: the operators of a network with their figures and edges, and the counts of devices; and the figures of its stages.
+#![tactic(auto)]
+
 mod edits;
 mod figures;
 mod operators;

@@ -1,6 +1,6 @@
 // Judging the bodies of a file, and making the sheet that they stand for.
 ghost use Rattle.std.specs.Prelude.{◌≡◌, ℕ, ◌+◌, ◌*◌, ◌%◌, ◌<◌, ◌≤◌, [], length, IfOk, OnOk, slice_index};
-ghost use Rattle.bytes.specs.Little.{field};
+ghost use Rattle.byte_fields.specs.Little.{field};
 ghost use Rattle.refusals.specs.Told.{told, told_reason, outcome};
 ghost use Rattle.sheet.specs.Nets.{size, empty, Edge};
 ghost use Rattle.sheet.specs.Changes.{changed, added, joined, counted};
@@ -17,7 +17,7 @@ fn figure(body: &[u8], at: usize) -> u32
     requires { at + 4 ≤ length body.now }
     ensures { result ≡ field body.now at 4 }
 {
-    bytes::read_u32(body, at).unwrap()
+    byte_fields::read_u32(body, at).unwrap()
 }
 
 // The row of operator `v`.

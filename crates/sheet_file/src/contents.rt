@@ -35,10 +35,10 @@ impl Entry {
         ensures { MatchOption result (length file.now < 10 + 5 * index) (λ e. (e.section ≡ section_of file.now index) × (e.offset ≡ offset_of file.now index) × (e.length ≡ length_of file.now index) × (e.length < 65536)) }
     {
         let at = HEAD + ENTRY * index;
-        let Some(offset) = bytes::read_u16(file, at + 1) else {
+        let Some(offset) = byte_fields::read_u16(file, at + 1) else {
             return None;
         };
-        let Some(length) = bytes::read_u16(file, at + 3) else {
+        let Some(length) = byte_fields::read_u16(file, at + 3) else {
             return None;
         };
         Some(Entry {

@@ -1,4 +1,6 @@
 // Sheet files: reading and judging them; writing them is handed on from the crate below.
+#![tactic(auto)]
+
 mod bodies;
 mod contents;
 mod loads;

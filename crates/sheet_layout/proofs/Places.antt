@@ -1,8 +1,8 @@
 -- Reading in a body is reading in the file.
 use Rattle.std.proofs.Common.{◌≡◌, ℕ, ◌+◌, ◌*◌, ◌<◌, ◌≤◌, List, length, get_or, drop, refl, ap, ◌∙◌, arith}
 use Rattle.std.proofs.lemmas.List.{length-take-le, length-drop, get_or-take, get_or-drop}
-use Rattle.bytes.specs.Little.{field}
-use Rattle.bytes.proofs.Little.{field_part}
+use Rattle.byte_fields.specs.Little.{field}
+use Rattle.byte_fields.proofs.Little.{field_part}
 use Rattle.sheet_layout.specs.Contents.{length_of, start, body}
 use Rattle.sheet_layout.specs.Bodies.{row_at, from, to}
 use Rattle.sheet_layout.specs.Layout.{pairs, edges_at, edge_from, edge_to}

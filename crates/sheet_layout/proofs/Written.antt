@@ -6,8 +6,8 @@
 use Rattle.std.proofs.Common.{◌≡◌, ℕ, zero, suc, ◌+◌, ◌-◌, ◌*◌, ◌/◌, ◌<◌, ◌≤◌, List, [], ◌∷◌, ◌++◌, length, get_or, take, drop, sym, refl, ap, ◌∙◌, subst, arith}
 use Rattle.std.specs.List.{flat_map, ContainsAt as Has}
 use Rattle.std.proofs.lemmas.List.{length-append, drop-drop, drop_at, get_or_append_left, get_or-append_right}
-use Rattle.bytes.specs.Little.{little, field}
-use Rattle.bytes.proofs.Little.{little_spread}
+use Rattle.byte_fields.specs.Little.{little, field}
+use Rattle.byte_fields.proofs.Little.{little_spread}
 use Rattle.sheet.specs.declared.operators.Operator.{Operator}
 use Rattle.sheet.specs.Rules.{Within, blank}
 use Rattle.sheet.specs.Nets.{Net, size, row, Edge}

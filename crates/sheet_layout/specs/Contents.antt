@@ -6,7 +6,7 @@
 --   head_refusal f     what is told of a file that does not begin as a sheet file does
 --   entries_refusal    what is told of the first wrong contents entry, from the index i on
 use Rattle.std.specs.Prelude.{ℕ, zero, suc, ◌+◌, ◌*◌, ◌%◌, Bool, true, false, cond, ◌&&◌, List, [], ◌∷◌, length, take, drop, ◌==◌, nat_le, slice_index}
-use Rattle.bytes.specs.Little.{field}
+use Rattle.byte_fields.specs.Little.{field}
 use Rattle.refusals.specs.declared.Refusal.TheVariants.{NotASheetFile, ContentsEntry}
 use Rattle.refusals.specs.Told.{told}
 use Rattle.sheet.specs.Changes.{unless, first}

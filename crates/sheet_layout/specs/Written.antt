@@ -5,7 +5,7 @@
 --   file_of n           the sheet file
 use Rattle.std.specs.Prelude.{ℕ, ◌+◌, ◌*◌, List, [], ◌∷◌, ◌++◌, length}
 use Rattle.std.specs.List.{flat_map}
-use Rattle.bytes.specs.Little.{spread}
+use Rattle.byte_fields.specs.Little.{spread}
 use Rattle.sets.specs.Sets.{members, upto}
 use Rattle.sheet.specs.declared.operators.Operator.{Operator}
 use Rattle.sheet.specs.Nets.{Net, size, after}

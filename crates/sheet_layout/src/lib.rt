@@ -1,4 +1,6 @@
 // The layout of sheet files: what reading and writing them share.
+#![tactic(auto)]
+
 ghost use Rattle.sheet_layout.specs.Laws.{LawsStand};
 
 // What a sheet file begins with, and how many contents entries it has.

@@ -10,10 +10,10 @@ use Rattle.std.proofs.Common.{◌≡◌, ℕ, zero, suc, ◌+◌, ◌*◌, ◌/�
 use Rattle.std.specs.List.{flat_map, AllByRecursion as All}
 use Rattle.std.proofs.lemmas.List.{append_assoc, append-nil, length-append, take_all}
 use Rattle.std.proofs.lemmas.Bool.{cases_lt}
-use Rattle.bytes.specs.Wrote.{Wrote}
-use Rattle.bytes.specs.Little.{spread}
-use Rattle.bytes.proofs.Little.{spread_four}
-use Rattle.bytes.proofs.Wrote.{wrote_none, wrote_then, wrote_take, wrote_drop, wrote_length, joined_step, joined_room}
+use Rattle.byte_fields.specs.Wrote.{Wrote}
+use Rattle.byte_fields.specs.Little.{spread}
+use Rattle.byte_fields.proofs.Little.{spread_four}
+use Rattle.byte_fields.proofs.Wrote.{wrote_none, wrote_then, wrote_take, wrote_drop, wrote_length, joined_step, joined_room}
 use Rattle.sets.specs.Sets.{In, members, upto}
 use Rattle.sets.proofs.Members.{members_all, sum_upto_none, sum_upto_more}
 use Rattle.sheet.specs.declared.operators.Operator.{Operator}

@@ -1,7 +1,9 @@
 // Writing a sheet as a sheet file: the head, the rows of the operators, the edges and the counts.
+#![tactic(auto)]
+
 ghost use Rattle.std.specs.Prelude.{◌≡◌, ◌+◌, ◌<◌, ◌≤◌, length, MatchResult};
 ghost use Rattle.std.specs.List.{flat_map};
-ghost use Rattle.bytes.specs.Wrote.{Wrote};
+ghost use Rattle.byte_fields.specs.Wrote.{Wrote};
 ghost use Rattle.sets.specs.Sets.{members};
 ghost use Rattle.sheet.specs.Views.{net};
 ghost use Rattle.sheet_layout.specs.Written.{entry_bytes, row_bytes, pair_bytes, rows_bytes, edges_bytes, head_bytes, file_of};
@@ -18,7 +20,7 @@ fn put(buffer: &mut [u8], at: usize, part: &[u8]) -> usize
     requires { at + length part.now ≤ length buffer.old }
     ensures { Wrote buffer.old at result part.now buffer.new }
 {
-    bytes::put(buffer, at, part).unwrap()
+    byte_fields::put(buffer, at, part).unwrap()
 }
 
 // A contents entry.

@@ -1,4 +1,6 @@
 // Writes a report on the sheet file that stands on its standard input. An argument is the accelerator's limit.
+#![tactic(auto)]
+
 use sheet_report::report;
 use std::env;
 use std::io::Read;

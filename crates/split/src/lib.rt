@@ -1,4 +1,6 @@
 // Splits of a network into stages: when they are lawful, and what they rate.
+#![tactic(auto)]
+
 mod judges;
 mod stages;
 mod walks;

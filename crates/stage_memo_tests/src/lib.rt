@@ -1,3 +1,5 @@
 // Tests of the memo against the sheet's own figures.
+#![tactic(auto)]
+
 #[cfg(test)]
 mod sweeps;

@@ -1,4 +1,6 @@
 // The table pass: fills the cells of every ideal, one text for every type of rating.
+#![tactic(auto)]
+
 mod fills;
 
 pub use fills::fill;

@@ -1,5 +1,5 @@
 use Rattle.std.proofs.Common.{arith}
-use Rattle.bytes.proofs.Wrote.{wrote_none}
+use Rattle.byte_fields.proofs.Wrote.{wrote_none}
 use Rattle.sheet.specs.Views.{net}
 use Rattle.sheet_layout.specs.Written.{pairs_from}
 use Rattle.sheet_layout.proofs.Rising.{joined_none}

@@ -1,5 +1,5 @@
 use Rattle.std.specs.List.{flat_map}
-use Rattle.bytes.specs.Wrote.{Wrote}
+use Rattle.byte_fields.specs.Wrote.{Wrote}
 use Rattle.sets.specs.Sets.{upto}
 use Rattle.sheet.specs.Views.{net}
 use Rattle.sheet_layout.specs.Written.{pairs_from}

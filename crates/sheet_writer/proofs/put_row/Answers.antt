@@ -1,4 +1,4 @@
-use Rattle.bytes.proofs.Wrote.{wrote_then}
+use Rattle.byte_fields.proofs.Wrote.{wrote_then}
 use Rattle.sheet_writer.proofs.Puts.{wrote_figure}
 use Rattle.sheet_writer.proofs.put_row.Goals as goal
 

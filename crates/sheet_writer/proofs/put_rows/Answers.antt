@@ -1,5 +1,5 @@
 use Rattle.std.proofs.Common.{arith}
-use Rattle.bytes.proofs.Wrote.{wrote_none}
+use Rattle.byte_fields.proofs.Wrote.{wrote_none}
 use Rattle.sheet.specs.Views.{net}
 use Rattle.sheet_writer.proofs.Puts.{row_room, row_step, rows_end}
 use Rattle.sheet_writer.proofs.put_rows.Goals as goal

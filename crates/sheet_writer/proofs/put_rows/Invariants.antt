@@ -1,6 +1,6 @@
 use Rattle.std.proofs.Common.{take}
 use Rattle.std.specs.List.{flat_map}
-use Rattle.bytes.specs.Wrote.{Wrote}
+use Rattle.byte_fields.specs.Wrote.{Wrote}
 use Rattle.sheet.specs.Views.{net}
 use Rattle.sheet_layout.specs.Written.{row_bytes}
 use Rattle.sheet_writer.proofs.put_rows.Given as goal

@@ -1,5 +1,5 @@
 use Rattle.std.proofs.Common.{◌*◌, arith}
-use Rattle.bytes.proofs.Wrote.{wrote_then}
+use Rattle.byte_fields.proofs.Wrote.{wrote_then}
 use Rattle.sheet.specs.Views.{net}
 use Rattle.sheet_writer.proofs.Puts.{edges_few, head_room, rows_room, pairs_room, counts_room, file_parts, file_written}
 use Rattle.sheet_writer.proofs.write.Goals as goal

@@ -2,7 +2,7 @@ use Rattle.std.proofs.Common.{◌≡◌, ℕ, zero, suc, ◌+◌, ◌-◌, ◌<�
 use borrow.Rule.Slice.PartMut.{put_mid}
 use Rattle.std.specs.List.{flat_map}
 use Rattle.std.proofs.lemmas.List.{append_assoc, length-append, length-take-le, length-drop, take_at, drop_at, drop-drop, take_more, take-append-drop, flat_map_more}
-use Rattle.bytes.specs.Wrote.{Wrote}
+use Rattle.byte_fields.specs.Wrote.{Wrote}
 
 -- nothing written
 pub wrote_none : (xs : List ℕ) (at : ℕ) → at ≤ length xs → Wrote xs at at [] xs

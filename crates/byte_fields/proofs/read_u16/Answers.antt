@@ -1,6 +1,6 @@
 use Rattle.std.proofs.Common.{◌≤◌, length, sym, ◌∙◌, arith, rules}
-use Rattle.bytes.proofs.Little.{field_rest, little_two}
-use Rattle.bytes.proofs.read_u16.Goals as goal
+use Rattle.byte_fields.proofs.Little.{field_rest, little_two}
+use Rattle.byte_fields.proofs.read_u16.Goals as goal
 
 pub returns : goal.returns
 returns c =

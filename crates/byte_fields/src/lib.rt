@@ -1,6 +1,8 @@
+#![tactic(auto)]
+
 ghost use Rattle.std.specs.Prelude.{◌≡◌, ◌+◌, ◌<◌, ◌≤◌, length, MatchOption};
-ghost use Rattle.bytes.specs.Little.{field};
-ghost use Rattle.bytes.specs.Wrote.{Wrote};
+ghost use Rattle.byte_fields.specs.Little.{field};
+ghost use Rattle.byte_fields.specs.Wrote.{Wrote};
 
 // The number of two bytes from the place `at`, the low byte first, if they are there.
 pub fn read_u16(bytes: &[u8], at: usize) -> Option<u16>

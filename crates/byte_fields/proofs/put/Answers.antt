@@ -1,6 +1,6 @@
 use Rattle.std.proofs.Common.{arith}
-use Rattle.bytes.proofs.Wrote.{wrote_one}
-use Rattle.bytes.proofs.put.Goals as goal
+use Rattle.byte_fields.proofs.Wrote.{wrote_one}
+use Rattle.byte_fields.proofs.put.Goals as goal
 
 pub returns : goal.returns
 returns c =
