@@ -8,4 +8,4 @@ returns c =
     let part = c.in-Some.part.now in
     let got = c.in-Some.ensures.lookup.0 in
     let long : 2 ≤ length part = search rules in
-    (omega (arith, got), c.from-le-bytes.ensures ∙ sym (little_two part 0 long) ∙ field_rest bytes part c.args.at 2 got.2)
+    (omega (arith, got), c.from_le_bytes.ensures ∙ sym (little_two part 0 long) ∙ field_rest bytes part c.args.at 2 got.2)

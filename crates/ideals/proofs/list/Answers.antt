@@ -22,8 +22,8 @@ pub loop-v-init : goal.loop-v-init
 loop-v-init c =
     stands_none (before (net c.args.sheet.now)) c.args.table.now c.min-most.result (omega (arith, c.if-most-eq0.false)) (omega (arith, c.min-most.ensures))
 
-pub append-above-requires : goal.append-above-requires
-append-above-requires c = record {
+pub append_above-requires : goal.append_above-requires
+append_above-requires c = record {
   begun = c.loop-v.invariant.within;
   fits = omega (arith, c.min-most.ensures, c.loop-v.auto.table, length-set c.args.table.now 0 0);
   few = omega (arith, c.operators-operators.ensures.value, c.operators-operators.ensures.keeps.few, c.loop-v-test.true);
@@ -32,13 +32,13 @@ append-above-requires c = record {
 
 pub loop-v-preserved : goal.loop-v-preserved
 loop-v-preserved c =
-    stands_more (before (net c.args.sheet.now)) (set c.args.table.now 0 0) c.min-most.result c.loop-v.v c.loop-v.count c.loop-v.table c.loop-v.invariant c.predecessors.result c.in-ok-count.count c.append-above.new.table c.predecessors.ensures.value c.in-ok-count.ensures.told c.in-ok-count.ensures.table
+    stands_more (before (net c.args.sheet.now)) (set c.args.table.now 0 0) c.min-most.result c.loop-v.v c.loop-v.count c.loop-v.table c.loop-v.invariant c.predecessors.result c.in_ok-count.count c.append_above.new.table c.predecessors.ensures.value c.in_ok-count.ensures.told c.in_ok-count.ensures.table
 
-pub returns-in-err-count : goal.returns-in-err-count
-returns-in-err-count c =
+pub returns-in_err-count : goal.returns-in_err-count
+returns-in_err-count c =
     let n = net c.args.sheet.now in
     let same : c.min-most.result ≡ room (length c.args.table.now) = omega (arith, c.min-most.ensures) in
-    let full = stands_full (before n) (set c.args.table.now 0 0) c.min-most.result c.loop-v.v c.loop-v.count c.loop-v.table c.loop-v.invariant c.predecessors.result (size n) c.append-above.new.table (omega (arith, c.operators-operators.ensures.value, c.loop-v-test.true)) c.predecessors.ensures.value c.in-err-count.ensures.told c.in-err-count.ensures.table in
+    let full = stands_full (before n) (set c.args.table.now 0 0) c.min-most.result c.loop-v.v c.loop-v.count c.loop-v.table c.loop-v.invariant c.predecessors.result (size n) c.append_above.new.table (omega (arith, c.operators-operators.ensures.value, c.loop-v-test.true)) c.predecessors.ensures.value c.in_err-count.ensures.told c.in_err-count.ensures.table in
     record {
       told = c.from-residual.ensures ∙ full.0 ∙ ap (λ (m : ℕ). fitting m (length (ideals n))) same;
       table = full.1 ∙ over_first (before n) c.args.table.now c.min-most.result (size n) (omega (arith, c.if-most-eq0.false)) ∙ ap (λ (m : ℕ). over (take m (ideals n)) c.args.table.now) same;

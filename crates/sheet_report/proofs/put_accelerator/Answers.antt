@@ -10,6 +10,6 @@ returns c =
     let M = c.args.accelerator.now.limit in
     let was = string_bytes c.args.text.now in
     let head = string_bytes c.write.new.self in
-    let named : head ≡ was ++ accelerator_head M = cc (c.in-ok-write.ensures.bytes, c.limit-limit.ensures) in
-    made_then c.put-load.result was (string_bytes c.put-load.new.text) head
-    (accelerator_head M) (load_line (accelerated M (sums c.args.stage.now))) named c.put-load.ensures
+    let named : head ≡ was ++ accelerator_head M = cc (c.in_ok-write.ensures.bytes, c.limit-limit.ensures) in
+    made_then c.put_load.result was (string_bytes c.put_load.new.text) head
+    (accelerator_head M) (load_line (accelerated M (sums c.args.stage.now))) named c.put_load.ensures

@@ -10,9 +10,9 @@ returns c =
     let n = net c.args.sheet.now in
     let stage = sums c.figures-stage.result in
     let was = string_bytes c.args.text.now in
-    let end = string_bytes c.put-processor.new.text in
-    made_is c.put-processor.result was end (stage_lines M stage) (network_lines M n)
+    let end = string_bytes c.put_processor.new.text in
+    made_is c.put_processor.result was end (stage_lines M stage) (network_lines M n)
     (network_same M n stage c.all.result c.all.ensures c.figures-stage.ensures.value)
-    (then_three c.put-processor.result was (string_bytes c.put-figures.new.text) (string_bytes c.put-accelerator.new.text) end
+    (then_three c.put_processor.result was (string_bytes c.put_figures.new.text) (string_bytes c.put_accelerator.new.text) end
     (stage_line stage) (accelerator_line M stage) (processor_line stage)
-    c.in-ok-put-figures.ensures c.in-ok-put-accelerator.ensures c.put-processor.ensures)
+    c.in_ok-put_figures.ensures c.in_ok-put_accelerator.ensures c.put_processor.ensures)

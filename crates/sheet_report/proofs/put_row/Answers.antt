@@ -10,6 +10,6 @@ returns c =
     let n = net c.args.sheet.now in
     let v = c.args.v in
     let found = MatchOption-at_some (size n ≤ v) (λ o. (v < size n) × (o.now ≡ row n v)) c.unwrap-operator.result c.unwrap-operator.ensures c.row.ensures in
-    row_made c.put-neighbours.result n v c.unwrap-operator.result.now c.predecessors.result c.successors.result
-    (string_bytes c.args.text.now) (string_bytes c.write.new.self) (string_bytes c.put-neighbours.new.text)
-    found.1 c.predecessors.ensures.value c.successors.ensures c.in-ok-write.ensures.bytes c.put-neighbours.ensures
+    row_made c.put_neighbours.result n v c.unwrap-operator.result.now c.predecessors.result c.successors.result
+    (string_bytes c.args.text.now) (string_bytes c.write.new.self) (string_bytes c.put_neighbours.new.text)
+    found.1 c.predecessors.ensures.value c.successors.ensures c.in_ok-write.ensures.bytes c.put_neighbours.ensures

@@ -9,5 +9,5 @@ loop-v-init c = rows_none (row_line (net c.args.sheet.now)) (string_bytes c.args
 
 pub loop-v-preserved : goal.loop-v-preserved
 loop-v-preserved c =
-    rows_more (row_line (net c.args.sheet.now)) (string_bytes c.args.text.now) (string_bytes c.loop-v.text) (string_bytes c.put-row.new.text) c.loop-v.v
-    c.loop-v.invariant c.in-ok-put-row.ensures
+    rows_more (row_line (net c.args.sheet.now)) (string_bytes c.args.text.now) (string_bytes c.loop-v.text) (string_bytes c.put_row.new.text) c.loop-v.v
+    c.loop-v.invariant c.in_ok-put_row.ensures

@@ -7,6 +7,6 @@ use Rattle.sheet_report.proofs.put_sheet.Goals as goal
 pub returns : goal.returns
 returns c =
     let n = net c.args.sheet.now in
-    then_three c.put-network.result (string_bytes c.args.text.now) (string_bytes c.put-summary.new.text) (string_bytes c.put-rows.new.text) (string_bytes c.put-network.new.text)
+    then_three c.put_network.result (string_bytes c.args.text.now) (string_bytes c.put_summary.new.text) (string_bytes c.put_rows.new.text) (string_bytes c.put_network.new.text)
     (summary n) (row_lines n) (network_lines c.args.accelerator.now.limit n)
-    c.in-ok-put-summary.ensures c.in-ok-put-rows.ensures c.put-network.ensures
+    c.in_ok-put_summary.ensures c.in_ok-put_rows.ensures c.put_network.ensures

@@ -10,10 +10,10 @@ pub loop-u-init : goal.loop-u-init
 loop-u-init c =
     rw (joined_none (pairs_from (net c.args.sheet.now))) (wrote_none c.args.buffer.now c.args.from (omega (arith, c.requires)))
 
-pub put-pairs-at-requires : goal.put-pairs-at-requires
-put-pairs-at-requires c =
+pub put_pairs-at-requires : goal.put_pairs-at-requires
+put_pairs-at-requires c =
     edges_room (net c.args.sheet.now) c.loop-u.u c.successors.result c.successors.ensures c.loop-u.invariant (omega arith) c.requires
 
 pub loop-u-preserved : goal.loop-u-preserved
 loop-u-preserved c =
-    edges_step (net c.args.sheet.now) c.loop-u.u c.successors.result c.successors.ensures c.loop-u.invariant c.put-pairs-at.ensures
+    edges_step (net c.args.sheet.now) c.loop-u.u c.successors.result c.successors.ensures c.loop-u.invariant c.put_pairs-at.ensures

@@ -9,5 +9,5 @@ returns g c =
     let e = kinds (g.K.Kind.meaning c.args.first.now) (g.L.Kind.meaning c.args.second.now) in
     let s = g.S.Scale.rules c.args.scale.now in
     let listed = c.in-Some.ensures in
-    finds_front n e s c.splits-stand.ensures c.args.ideals.now c.list.new.table c.args.ratings.now c.solve.new.ratings c.args.choices.now c.solve.new.choices
+    finds_front n e s c.splits_stand.ensures c.args.ideals.now c.list.new.table c.args.ratings.now c.solve.new.ratings c.args.choices.now c.solve.new.choices
     c.solve.result c.in-Some.n listed.told listed.table c.solve.ensures

@@ -15,9 +15,9 @@ returns-then-choices-at-eq0 g c =
     let k = c.args.counts.k in
     let l = c.args.counts.l in
     let n = length c.args.ideals.now in
-    let at = c.index-of-at.result in
+    let at = c.index_of-at.result in
     let lt : n - 1 < n = omega (arith, c.requires.some.0) in
-    let choice = ap (λ m. get_or c.args.choices.now m no_choice) c.index-of-at.ensures ∙ c.requires.chose (n - 1) k l lt (omega arith) (omega arith) in
+    let choice = ap (λ m. get_or c.args.choices.now m no_choice) c.index_of-at.ensures ∙ c.requires.chose (n - 1) k l lt (omega arith) (omega arith) in
     best_none e (λ _ _. refl) k l (n - 1) (get_or c.args.choices.now at no_choice) choice c.if-i-ne0.true c.if-choices-at-eq0.true
 
 pub returns : goal.returns
@@ -27,11 +27,11 @@ returns g c =
     let k = c.args.counts.k in
     let l = c.args.counts.l in
     let n = length c.args.ideals.now in
-    let at = c.index-of-at.result in
+    let at = c.index_of-at.result in
     let lt : n - 1 < n = omega (arith, c.requires.some.0) in
-    let choice = ap (λ m. get_or c.args.choices.now m no_choice) c.index-of-at.ensures ∙ c.requires.chose (n - 1) k l lt (omega arith) (omega arith) in
-    let within : at < length c.args.ratings.now = rw c.index-of-at.ensures (cell_lt k l n (n - 1) k l (length c.args.ratings.now) lt (omega arith) (omega arith) c.requires.ratings) in
-    let rating = get_or_read c.args.ratings.now at c.index-ratings-at.result within c.index-ratings-at.is s.start ∙ ap (λ m. get_or c.args.ratings.now m s.start) c.index-of-at.ensures ∙ c.requires.rates (n - 1) k l lt (omega arith) (omega arith) in
+    let choice = ap (λ m. get_or c.args.choices.now m no_choice) c.index_of-at.ensures ∙ c.requires.chose (n - 1) k l lt (omega arith) (omega arith) in
+    let within : at < length c.args.ratings.now = rw c.index_of-at.ensures (cell_lt k l n (n - 1) k l (length c.args.ratings.now) lt (omega arith) (omega arith) c.requires.ratings) in
+    let rating = get_or_read c.args.ratings.now at c.index-ratings-at.result within c.index-ratings-at.is s.start ∙ ap (λ m. get_or c.args.ratings.now m s.start) c.index_of-at.ensures ∙ c.requires.rates (n - 1) k l lt (omega arith) (omega arith) in
     elim c.else-i-ne0.branch [
       | else-i-ne0-via-then-i-ne0+else-choices-at-eq0 w ↦ best_some e (λ _ _. refl) k l (n - 1) c.index-ratings-at.result (get_or c.args.choices.now at no_choice) rating choice w.if-i-ne0.true w.if-choices-at-eq0.false
       | else-i-ne0-via-else-i-ne0 w ↦ best_first e (λ _ _. refl) k l (n - 1) c.index-ratings-at.result rating w.if-i-ne0.false

@@ -6,8 +6,8 @@ use Rattle.best_split.specs.Views.{stages_of}
 use Rattle.best_split.proofs.Solves.{fit_is, rows_in, rated_at, chose_at, best_at, stages_at, solves_short, solves_some}
 use Rattle.best_split.proofs.finds.solve.Goals as goal
 
-pub last-rating-requires : goal.last-rating-requires
-last-rating-requires g c =
+pub last_rating-requires : goal.last_rating-requires
+last_rating-requires g c =
     let n = net c.args.sheet.now in
     let e = setting_over c.args.ideals.now n (kinds (g.K.Kind.meaning c.args.first.now) (g.L.Kind.meaning c.args.second.now)) (g.S.Scale.rules c.args.scale.now) in
     let fits = sym (fit_is n.k n.l (length c.args.ideals.now) (length c.args.ratings.now) (length c.args.choices.now) c.requires.some.1) ∙ sym c.fill.ensures.suffices ∙ c.if-not-fill.false in
@@ -22,8 +22,8 @@ last-rating-requires g c =
       chose = chose_at e n.k n.l c.of-counts.result.k c.of-counts.result.l counts.0 counts.1 c.args.ratings.now c.fill.new.ratings c.args.choices.now c.fill.new.choices passed;
     }
 
-pub read-back-split-requires : goal.read-back-split-requires
-read-back-split-requires g c =
+pub read_back-split-requires : goal.read_back-split-requires
+read_back-split-requires g c =
     let n = net c.args.sheet.now in
     let e = setting_over c.args.ideals.now n (kinds (g.K.Kind.meaning c.args.first.now) (g.L.Kind.meaning c.args.second.now)) (g.S.Scale.rules c.args.scale.now) in
     let fits = sym (fit_is n.k n.l (length c.args.ideals.now) (length c.args.ratings.now) (length c.args.choices.now) c.requires.some.1) ∙ sym c.fill.ensures.suffices ∙ c.if-not-fill.false in
@@ -54,7 +54,7 @@ returns g c =
     let l = c.of-counts.result.l in
     let last = length c.args.ideals.now - 1 in
     solves_some e n.k n.l c.args.ratings.now c.fill.new.ratings c.args.choices.now c.fill.new.choices fits (c.fill.ensures.fills c.if-not-fill.false)
-    (record { rating = c.in-Some.rating; split = c.read-back-split.result; ideals = length c.args.ideals.now })
+    (record { rating = c.in-Some.rating; split = c.read_back-split.result; ideals = length c.args.ideals.now })
     (best_at e n.k n.l k l last counts.0 counts.1 (Some c.in-Some.rating) c.in-Some.ensures)
-    (stages_at e n.k n.l k l last counts.0 counts.1 (stages_of c.read-back-split.result) c.read-back-split.ensures)
+    (stages_at e n.k n.l k l last counts.0 counts.1 (stages_of c.read_back-split.result) c.read_back-split.ensures)
     refl

@@ -5,8 +5,8 @@ use Rattle.cells.specs.Cells.{cell_at, no_choice, lowered}
 use Rattle.cells.proofs.Tables.{put, left}
 use Rattle.cells.proofs.cells.lower.Goals as goal
 
-pub returns-then-is-lower : goal.returns-then-is-lower
-returns-then-is-lower g c = ?
+pub returns-then-is_lower : goal.returns-then-is_lower
+returns-then-is_lower g c = ?
 
 pub returns : goal.returns
 returns g c = ?

@@ -11,6 +11,6 @@ returns g c =
     let apart : c.args.from + width_of c.args.counts.k c.args.counts.l ≤ c.args.to = search rules in
     record {
       fits = search rules;
-      offers = λ _. onto_both s c.args.ideal (answered c.args.x.now) (answered c.args.y.now) c.args.from c.args.to (c.args.counts.k + 1) c.args.counts.l (cell_at s c.args.ratings.now c.args.choices.now) (cell_at s c.offer-first.new.ratings c.offer-first.new.choices) (cell_at s c.offer-second.new.ratings c.offer-second.new.choices) apart c.offer-first.ensures c.offer-second.ensures;
+      offers = λ _. onto_both s c.args.ideal (answered c.args.x.now) (answered c.args.y.now) c.args.from c.args.to (c.args.counts.k + 1) c.args.counts.l (cell_at s c.args.ratings.now c.args.choices.now) (cell_at s c.offer_first.new.ratings c.offer_first.new.choices) (cell_at s c.offer_second.new.ratings c.offer_second.new.choices) apart c.offer_first.ensures c.offer_second.ensures;
       keeps = search rules;
     }

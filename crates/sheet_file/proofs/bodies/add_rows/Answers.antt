@@ -12,18 +12,18 @@ pub loop-v-init : goal.loop-v-init
 unfolding with_rows first_wrong
 loop-v-init c = (c.requires.empty, refl)
 
-pub add-row-requires : goal.add-row-requires
-add-row-requires c =
+pub add_row-requires : goal.add_row-requires
+add_row-requires c =
     let bs = c.args.body.now in
     let held : size (net c.loop-v.sheet) ≡ 0 + c.loop-v.v = ap size c.loop-v.invariant.0 ∙ with_rows_size bs c.loop-v.v empty in
     record { room = omega (arith, held, c.requires.within); within = omega arith }
 
-pub returns-in-err-add-row : goal.returns-in-err-add-row
-returns-in-err-add-row c =
+pub returns-in_err-add_row : goal.returns-in_err-add_row
+returns-in_err-add_row c =
     let p = err_from_is_err_and c.from-residual.result c.from-residual.ensures.1 in
     let bs = c.args.body.now in
     rw (p.1, p.2) (record {
-      refuses = first_wrong_at (row_refusal bs) c.in-err-add-row.field-0.0 c.loop-v.v (rows_in bs) c.loop-v-test.true c.loop-v.invariant.1 c.in-err-add-row.ensures.refuses;
+      refuses = first_wrong_at (row_refusal bs) c.in_err-add_row.field-0.0 c.loop-v.v (rows_in bs) c.loop-v-test.true c.loop-v.invariant.1 c.in_err-add_row.ensures.refuses;
       reads = tt;
     })
 
@@ -31,6 +31,6 @@ pub loop-v-preserved : goal.loop-v-preserved
 loop-v-preserved c =
     let bs = c.args.body.now in
     let v = c.loop-v.v in (
-      rows_step bs v (net c.loop-v.sheet) (net c.add-row.new.sheet) c.loop-v.invariant.0 c.in-ok-add-row.ensures.reads,
-      first_wrong_step (row_refusal bs) v c.loop-v.invariant.1 (sym c.in-ok-add-row.ensures.refuses),
+      rows_step bs v (net c.loop-v.sheet) (net c.add_row.new.sheet) c.loop-v.invariant.0 c.in_ok-add_row.ensures.reads,
+      first_wrong_step (row_refusal bs) v c.loop-v.invariant.1 (sym c.in_ok-add_row.ensures.refuses),
     )

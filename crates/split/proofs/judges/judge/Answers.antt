@@ -15,16 +15,16 @@ use Rattle.split.proofs.judges.judge.Goals as goal
 none : Stage
 none = record { mask = 0; kind = 0 }
 
-pub returns-in-err-load : goal.returns-in-err-load
+pub returns-in_err-load : goal.returns-in_err-load
 unfolding none
-returns-in-err-load g c =
+returns-in_err-load g c =
     let p = err_from_is_err_and c.from-residual.result c.from-residual.ensures.1 in
     let n = net c.args.sheet.now in
     let e = kinds (g.K.Kind.meaning c.args.first.now) (g.L.Kind.meaning c.args.second.now) in
     let s = g.S.Scale.rules c.args.scale.now in
     let ss = c.args.stages.now in
-    let b = c.in-err-load.field-0.0 in
-    rw (p.1, p.2) (judged_breach n e s ss b (breach_out n e ss c.loop-i.i none c.loop-i-test.true c.loop-i.walk b (breach n e ss) c.in-err-load.ensures.refuses c.loop-i.invariant.0))
+    let b = c.in_err-load.field-0.0 in
+    rw (p.1, p.2) (judged_breach n e s ss b (breach_out n e ss c.loop-i.i none c.loop-i-test.true c.loop-i.walk b (breach n e ss) c.in_err-load.ensures.refuses c.loop-i.invariant.0))
 
 pub with-walk-requires : goal.with-walk-requires
 with-walk-requires g c =
@@ -40,8 +40,8 @@ loop-i-preserved g c =
     let s = g.S.Scale.rules c.args.scale.now in
     let ss = c.args.stages.now in
     let i = c.loop-i.i in (
-      breach_turn n e ss i none c.loop-i-test.true c.loop-i.walk c.with-walk.result (breach n e ss) c.with-walk.ensures c.in-ok-load.ensures.refuses c.loop-i.invariant.0,
-      rate_turn n e ss i none c.loop-i-test.true s c.loop-i.rating c.join-rating.result (load_of c.in-ok-load.load) (rate n e s ss) c.join-rating.ensures c.in-ok-load.ensures.loads c.loop-i.invariant.1,
+      breach_turn n e ss i none c.loop-i-test.true c.loop-i.walk c.with-walk.result (breach n e ss) c.with-walk.ensures c.in_ok-load.ensures.refuses c.loop-i.invariant.0,
+      rate_turn n e ss i none c.loop-i-test.true s c.loop-i.rating c.join-rating.result (load_of c.in_ok-load.load) (rate n e s ss) c.join-rating.ensures c.in_ok-load.ensures.loads c.loop-i.invariant.1,
       step_le c.loop-i.walk.first c.with-walk.result.first i (eqb (get_or ss i none).kind 1) c.loop-i.invariant.2 (ap (λ (w : Walk). w.first) c.with-walk.ensures),
       step_le c.loop-i.walk.second c.with-walk.result.second i (eqb (get_or ss i none).kind 2) c.loop-i.invariant.3 (ap (λ (w : Walk). w.second) c.with-walk.ensures),
     )

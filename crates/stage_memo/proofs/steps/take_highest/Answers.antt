@@ -2,8 +2,8 @@ use Rattle.std.proofs.Common.{◌^◌, ◌<◌, rules}
 use Rattle.stage_memo.proofs.Walks.{highest}
 use Rattle.stage_memo.proofs.steps.take_highest.Goals as goal
 
-pub overflow-sub-mask : goal.overflow-sub-mask
-overflow-sub-mask c =
+pub overflow_sub-mask : goal.overflow_sub-mask
+overflow_sub-mask c =
     let some : 0 < c.args.mask.now = search rules in
     (highest c.args.mask.now some (search rules)).0
 

@@ -31,8 +31,8 @@ returns g c =
     record {
       suffices = sym room;
       fills = λ _.
-          subst (λ (z : ℕ). Passed e n.k z c.args.ratings.now c.args.choices.now c.fill-rows.new.ratings c.fill-rows.new.choices) counts.1
-          (subst (λ (z : ℕ). Passed e z c.of-counts.result.l c.args.ratings.now c.args.choices.now c.fill-rows.new.ratings c.fill-rows.new.choices) counts.0
-          (subst (λ (m : Net). Passed (over m) c.of-counts.result.k c.of-counts.result.l c.args.ratings.now c.args.choices.now c.fill-rows.new.ratings c.fill-rows.new.choices) c.new-memo.ensures c.fill-rows.ensures.rows));
+          subst (λ (z : ℕ). Passed e n.k z c.args.ratings.now c.args.choices.now c.fill_rows.new.ratings c.fill_rows.new.choices) counts.1
+          (subst (λ (z : ℕ). Passed e z c.of-counts.result.l c.args.ratings.now c.args.choices.now c.fill_rows.new.ratings c.fill_rows.new.choices) counts.0
+          (subst (λ (m : Net). Passed (over m) c.of-counts.result.k c.of-counts.result.l c.args.ratings.now c.args.choices.now c.fill_rows.new.ratings c.fill_rows.new.choices) c.new-memo.ensures c.fill_rows.ensures.rows));
       keeps = search rules;
     }

@@ -17,10 +17,10 @@ loop-j-init g c =
     let l = c.args.counts.l in
     let fits = row_fits_in c.args.i (length c.args.ideals.now) c.width.result (width_of k l) (length c.args.ratings.now) (length c.args.choices.now) c.width.ensures c.requires.listed c.requires.ratings c.requires.choices in
     let before = cell_at s c.args.ratings.now c.args.choices.now in
-    let after = cell_at s c.clear-row.new.ratings c.clear-row.new.choices in (
+    let after = cell_at s c.clear_row.new.ratings c.clear_row.new.choices in (
       refl,
       row_here e (λ _ _. refl) k l c.args.i 0 before after
-          (row_cleared e (λ _ _. refl) k l c.args.i c.width.result before after c.width.ensures (c.clear-row.ensures.clears (c.clear-row.ensures.fits ∙ fits))),
+          (row_cleared e (λ _ _. refl) k l c.args.i c.width.result before after c.width.ensures (c.clear_row.ensures.clears (c.clear_row.ensures.fits ∙ fits))),
     )
 
 pub loop-j-preserved : goal.loop-j-preserved
@@ -31,15 +31,15 @@ loop-j-preserved g c =
     let l = c.args.counts.l in
     let fits = row_fits_in c.args.i (length c.args.ideals.now) c.width.result (width_of k l) (length c.args.ratings.now) (length c.args.choices.now) c.width.ensures c.requires.listed c.requires.ratings c.requires.choices in
     let before = cell_at s c.args.ratings.now c.args.choices.now in
-    let after = cell_at s c.clear-row.new.ratings c.clear-row.new.choices in
+    let after = cell_at s c.clear_row.new.ratings c.clear_row.new.choices in
     let turn = cell_at s c.loop-j.ratings c.loop-j.choices in
-    let next = cell_at s c.offer-ideal.new.ratings c.offer-ideal.new.choices in
+    let next = cell_at s c.offer_ideal.new.ratings c.offer_ideal.new.choices in
     let over : Net → Setting g.row.S-Rating.Denot = λ n. setting_over c.args.ideals.now n (kinds (g.K.Kind.meaning c.args.first.now) (g.L.Kind.meaning c.args.second.now)) s in
     let lt : c.loop-j.j < c.args.i = search rules in
-    let offered = subst (λ (n : Net). Onto l (k + 1) (c.args.i * width_of k l) (both s c.loop-j.j (cut (over n) one 0 0 c.args.i c.loop-j.j) (cut (over n) two 0 0 c.args.i c.loop-j.j) (row l (c.loop-j.j * width_of k l) turn)) turn next) c.loop-j.invariant.0 c.offer-ideal.ensures.rows in (
-      c.offer-ideal.ensures.keeps ∙ c.loop-j.invariant.0,
+    let offered = subst (λ (n : Net). Onto l (k + 1) (c.args.i * width_of k l) (both s c.loop-j.j (cut (over n) one 0 0 c.args.i c.loop-j.j) (cut (over n) two 0 0 c.args.i c.loop-j.j) (row l (c.loop-j.j * width_of k l) turn)) turn next) c.loop-j.invariant.0 c.offer_ideal.ensures.rows in (
+      c.offer_ideal.ensures.keeps ∙ c.loop-j.invariant.0,
       row_more e (λ _ _. refl) k l c.args.i c.loop-j.j (cut e one 0 0 c.args.i c.loop-j.j) (cut e two 0 0 c.args.i c.loop-j.j) before after turn next lt (λ _ _. refl) (λ _ _. refl) c.requires.stand
-          (row_cleared e (λ _ _. refl) k l c.args.i c.width.result before after c.width.ensures (c.clear-row.ensures.clears (c.clear-row.ensures.fits ∙ fits)))
+          (row_cleared e (λ _ _. refl) k l c.args.i c.width.result before after c.width.ensures (c.clear_row.ensures.clears (c.clear_row.ensures.fits ∙ fits)))
           c.loop-j.invariant.1 offered,
     )
 
@@ -51,11 +51,11 @@ returns g c =
     let l = c.args.counts.l in
     let fits = row_fits_in c.args.i (length c.args.ideals.now) c.width.result (width_of k l) (length c.args.ratings.now) (length c.args.choices.now) c.width.ensures c.requires.listed c.requires.ratings c.requires.choices in
     let before = cell_at s c.args.ratings.now c.args.choices.now in
-    let after = cell_at s c.clear-row.new.ratings c.clear-row.new.choices in
+    let after = cell_at s c.clear_row.new.ratings c.clear_row.new.choices in
     let q : c.loop-j.j ≡ c.args.i = search rules in
     record {
       rows = row_then e (λ _ _. refl) k l c.args.i 0 c.args.i before after (cell_at s c.loop-j.ratings c.loop-j.choices)
-          (row_cleared e (λ _ _. refl) k l c.args.i c.width.result before after c.width.ensures (c.clear-row.ensures.clears (c.clear-row.ensures.fits ∙ fits)))
+          (row_cleared e (λ _ _. refl) k l c.args.i c.width.result before after c.width.ensures (c.clear_row.ensures.clears (c.clear_row.ensures.fits ∙ fits)))
           (rw q at c.loop-j.invariant.1);
       keeps = c.loop-j.invariant.0;
     }

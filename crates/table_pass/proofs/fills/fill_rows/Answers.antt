@@ -16,8 +16,8 @@ loop-i-init g c =
     let e = setting_over c.args.ideals.now (memo_net c.args.memo.now) (kinds (g.K.Kind.meaning c.args.first.now) (g.L.Kind.meaning c.args.second.now)) s in
     (refl, filled_none e (λ _ _. refl) c.args.counts.k c.args.counts.l (cell_at s c.args.ratings.now c.args.choices.now), λ _ _. refl)
 
-pub fill-row-requires : goal.fill-row-requires
-fill-row-requires g c =
+pub fill_row-requires : goal.fill_row-requires
+fill_row-requires g c =
     let s = g.S.Scale.rules c.args.scale.now in
     let over : Net → Setting g.row.S-Rating.Denot = λ n. setting_over c.args.ideals.now n (kinds (g.K.Kind.meaning c.args.first.now) (g.L.Kind.meaning c.args.second.now)) s in
     record {
@@ -36,9 +36,9 @@ loop-i-preserved g c =
     let k = c.args.counts.k in
     let l = c.args.counts.l in
     let turn = cell_at s c.loop-i.ratings c.loop-i.choices in
-    let next = cell_at s c.fill-row.new.ratings c.fill-row.new.choices in
-    let filled = subst (λ (n : Net). Onto l (k + 1) (c.loop-i.i * width_of k l) (reached (over n) c.loop-i.i c.loop-i.i) turn next) c.loop-i.invariant.0 c.fill-row.ensures.rows in (
-      c.fill-row.ensures.keeps ∙ c.loop-i.invariant.0,
+    let next = cell_at s c.fill_row.new.ratings c.fill_row.new.choices in
+    let filled = subst (λ (n : Net). Onto l (k + 1) (c.loop-i.i * width_of k l) (reached (over n) c.loop-i.i c.loop-i.i) turn next) c.loop-i.invariant.0 c.fill_row.ensures.rows in (
+      c.fill_row.ensures.keeps ∙ c.loop-i.invariant.0,
       filled_more e (λ _ _. refl) k l c.loop-i.i turn next c.loop-i.invariant.1 filled,
       beyond_more e (λ _ _. refl) k l c.loop-i.i (cell_at s c.args.ratings.now c.args.choices.now) turn next c.loop-i.invariant.2 filled,
     )

@@ -5,13 +5,19 @@ use Rattle.sheet.specs.Views.{net}
 use Rattle.sheet.proofs.Changes.{add_granted, modest_more, upward_more, added_more}
 use Rattle.sheet.proofs.sheets.Sheet.add.Goals as goal
 
-pub invariant-of-self : goal.invariant-of-self
-invariant-of-self c =
+pub invariant_of-self : goal.invariant_of-self
+invariant_of-self c =
     let s = c.args.self.now in
     let n = s.operators in
     let room : n < length s.rows = omega arith in
     let masks : n < length s.successors = omega arith in
-    (omega arith, ((search rules, search rules), (modest_more s.rows n c.args.operator room s.modest (sym c.if-not-is-within.ensures), (upward_more s.successors n masks s.upward, (s.devices, tt)))))
+    record {
+      few = omega arith;
+      tables = (search rules, search rules);
+      modest = modest_more s.rows n c.args.operator room s.modest (sym c.if-not-is_within.ensures);
+      upward = upward_more s.successors n masks s.upward;
+      devices = s.devices;
+    }
 
 pub returns : goal.returns
 returns c =
@@ -21,7 +27,7 @@ returns c =
     let masks : n < length s.successors = omega arith in
     let front : size (net s) ≡ n = length-take-le n s.rows (omega arith) in
     record {
-      refuses = add_granted (net s) c.args.operator (omega (arith, front)) (sym c.if-not-is-within.ensures);
+      refuses = add_granted (net s) c.args.operator (omega (arith, front)) (sym c.if-not-is_within.ensures);
       value = sym front;
       changes = added_more s.rows s.successors n s.k s.l c.args.operator room masks;
     }

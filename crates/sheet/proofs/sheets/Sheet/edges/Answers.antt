@@ -22,9 +22,9 @@ loop-u-preserved c =
     let so_far : c.loop-u.edges ≡ sum_by f (upto u) = c.loop-u.invariant in
     ap (λ (x : ℕ). x + c.size.result) so_far ∙ ap (λ (x : ℕ). sum_by f (upto u) + x) here ∙ sym (sum_upto_more f u)
 
-pub overflow-add-edges : goal.overflow-add-edges
+pub overflow_add-edges : goal.overflow_add-edges
 unfolding from
-overflow-add-edges c =
+overflow_add-edges c =
     let s = c.args.self.now in
     let f = from (net s) in
     let u = c.loop-u.u in

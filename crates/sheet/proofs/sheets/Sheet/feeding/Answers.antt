@@ -6,7 +6,7 @@ use Rattle.sheet.specs.Nets.{size}
 use Rattle.sheet.specs.Figures.{feeds}
 use Rattle.sheet.specs.Views.{net}
 use Rattle.sheet.proofs.sheets.Sheet.feeding.Goals as goal
-use Rattle.sheet.proofs.sheets.Sheet.feeding.Goals.{then-is-feeding, else-is-feeding}
+use Rattle.sheet.proofs.sheets.Sheet.feeding.Goals.{then-is_feeding, else-is_feeding}
 
 pub loop-u-init : goal.loop-u-init
 loop-u-init c = gathered_none (feeds (net c.args.self.now) c.args.mask)
@@ -15,9 +15,9 @@ pub loop-u-preserved : goal.loop-u-preserved
 loop-u-preserved c =
     let u = c.loop-u.u in
     let test : ℕ → Bool = feeds (net c.args.self.now) c.args.mask in
-    elim c.if-is-feeding.branch [
-      | then-is-feeding w ↦ w.set-is ∙ gathered_yes test u c.loop-u.set w.include-set.result (omega arith) c.loop-u.invariant (sym c.is-feeding.ensures ∙ w.if-is-feeding.true) w.include-set.ensures
-      | else-is-feeding w ↦ w.set-is ∙ gathered_no test u c.loop-u.set c.loop-u.invariant (sym c.is-feeding.ensures ∙ w.if-is-feeding.false)
+    elim c.if-is_feeding.branch [
+      | then-is_feeding w ↦ w.set-is ∙ gathered_yes test u c.loop-u.set w.include-set.result (omega arith) c.loop-u.invariant (sym c.is_feeding.ensures ∙ w.if-is_feeding.true) w.include-set.ensures
+      | else-is_feeding w ↦ w.set-is ∙ gathered_no test u c.loop-u.set c.loop-u.invariant (sym c.is_feeding.ensures ∙ w.if-is_feeding.false)
     ]
 
 pub returns : goal.returns

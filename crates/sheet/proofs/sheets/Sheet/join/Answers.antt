@@ -16,13 +16,19 @@ returns-then-holds c =
     let there = ap (λ (m : ℕ). has m v) (get_or-take s.operators s.successors u 0 (omega arith)) ∙ sym c.if-holds.ensures in
     record { refuses = join_there (net s) u v (omega (arith, front)) (omega (arith, front)) (omega arith) there; changes = refl }
 
-pub invariant-of-self : goal.invariant-of-self
-invariant-of-self c =
+pub invariant_of-self : goal.invariant_of-self
+invariant_of-self c =
     let s = c.args.self.now in
     let u = c.args.from in
     let v = c.args.to in
     let is = c.include.ensures ∙ ap (λ (b : Bool). cond b (including (get_or s.successors u 0) v) (get_or s.successors u 0)) (lt-ltb v 64 (omega arith)) in
-    (omega arith, ((s.tables.0, length-set s.successors u c.include.result ∙ s.tables.1), (s.modest, (upward_set s.successors s.operators u v c.include.result (omega arith) (omega arith) (omega arith) is s.upward, (s.devices, tt)))))
+    record {
+      few = omega arith;
+      tables = (s.tables.0, length-set s.successors u c.include.result ∙ s.tables.1);
+      modest = s.modest;
+      upward = upward_set s.successors s.operators u v c.include.result (omega arith) (omega arith) (omega arith) is s.upward;
+      devices = s.devices;
+    }
 
 pub returns : goal.returns
 returns c =

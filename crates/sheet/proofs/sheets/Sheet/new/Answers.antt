@@ -4,6 +4,12 @@ use Rattle.sets.specs.Sets.{has}
 use Rattle.sets.proofs.Sets.{has_none}
 use Rattle.sheet.proofs.sheets.Sheet.new.Goals as goal
 
-pub invariant-of-result : goal.invariant-of-result
-invariant-of-result c =
-    (omega arith, ((search rules, search rules), ((λ v. (omega arith, omega arith, omega arith, omega arith)), ((λ u v h. absurd (both_ways (has 0 v) (has_none v) h)), ((omega arith, omega arith), tt)))))
+pub invariant_of-result : goal.invariant_of-result
+invariant_of-result c =
+    record {
+      few = omega arith;
+      tables = (search rules, search rules);
+      modest = λ v. (omega arith, omega arith, omega arith, omega arith);
+      upward = λ u v h. absurd (both_ways (has 0 v) (has_none v) h);
+      devices = (omega arith, omega arith);
+    }
