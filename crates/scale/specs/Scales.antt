@@ -8,11 +8,11 @@ use Rattle.scale.specs.declared.pairs.PairRating.{PairRating}
 use Rattle.scale.specs.Rules.{Rules}
 
 abbrev pub peak : Rules ℕ
-peak = record { at_most = leb; start = 0; joined = λ r x. max r x.ticks }
+peak = record { at_most = nat_le; start = 0; joined = λ r x. max r x.ticks }
 
 -- of a rating below 2 ^ 64 the larger one here is the sum, or the greatest number where the sum is above it
 abbrev pub line : Rules ℕ
-line = record { at_most = leb; start = 0; joined = λ r x. max r (min (r + x.ticks) (2 ^ 64 - 1)) }
+line = record { at_most = nat_le; start = 0; joined = λ r x. max r (min (r + x.ticks) (2 ^ 64 - 1)) }
 
 abbrev pub pair_at_most : PairRating → PairRating → Bool
 pair_at_most p q = nat_lt p.ticks q.ticks || (p.ticks == q.ticks && nat_le p.link q.link)

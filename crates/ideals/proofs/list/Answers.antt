@@ -40,7 +40,7 @@ returns-in_err-count c =
     let same : c.min-most.result ≡ room (length c.args.table.now) = omega (arith, c.min-most.ensures) in
     let full = stands_full (before n) (set c.args.table.now 0 0) c.min-most.result c.loop-v.v c.loop-v.count c.loop-v.table c.loop-v.invariant c.predecessors.result (size n) c.append_above.new.table (omega (arith, c.operators-operators.ensures.value, c.loop-v-test.true)) c.predecessors.ensures.value c.in_err-count.ensures.told c.in_err-count.ensures.table in
     record {
-      told = c.from-residual.ensures ∙ full.0 ∙ ap (λ (m : ℕ). fitting m (length (ideals n))) same;
+      told = c.from_residual.ensures ∙ full.0 ∙ ap (λ (m : ℕ). fitting m (length (ideals n))) same;
       table = full.1 ∙ over_first (before n) c.args.table.now c.min-most.result (size n) (omega (arith, c.if-most-eq0.false)) ∙ ap (λ (m : ℕ). over (take m (ideals n)) c.args.table.now) same;
       means = listing n c.operators-operators.ensures.keeps;
     }

@@ -20,7 +20,7 @@ add_row-requires c =
 
 pub returns-in_err-add_row : goal.returns-in_err-add_row
 returns-in_err-add_row c =
-    let p = err_from_is_err_and c.from-residual.result c.from-residual.ensures.1 in
+    let p = err_from_is_err_and c.from_residual.result c.from_residual.ensures.1 in
     let bs = c.args.body.now in
     rw (p.1, p.2) (record {
       refuses = first_wrong_at (row_refusal bs) c.in_err-add_row.field-0.0 c.loop-v.v (rows_in bs) c.loop-v-test.true c.loop-v.invariant.1 c.in_err-add_row.ensures.refuses;

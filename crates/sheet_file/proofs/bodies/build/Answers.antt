@@ -11,7 +11,7 @@ join_edges-requires c = record {
 
 pub returns-in_err-join_edges : goal.returns-in_err-join_edges
 returns-in_err-join_edges c =
-    let p = err_from_is_err_and c.from-residual-in_err-join_edges.result c.from-residual-in_err-join_edges.ensures.1 in
+    let p = err_from_is_err_and c.from_residual-in_err-join_edges.result c.from_residual-in_err-join_edges.ensures.1 in
     let rows = c.in_ok-add_rows.ensures in
     rw (p.1, p.2) (record {
       refuses = edges_told c.args.operators.now c.args.edges.now c.args.counts.now (net c.add_rows.new.sheet) c.in_err-join_edges.field-0.0 rows.refuses rows.reads c.in_err-join_edges.ensures.refuses;
@@ -20,7 +20,7 @@ returns-in_err-join_edges c =
 
 pub returns-in_err-set_counts : goal.returns-in_err-set_counts
 returns-in_err-set_counts c =
-    let p = err_from_is_err_and c.from-residual-in_err-set_counts.result c.from-residual-in_err-set_counts.ensures.1 in
+    let p = err_from_is_err_and c.from_residual-in_err-set_counts.result c.from_residual-in_err-set_counts.ensures.1 in
     let rows = c.in_ok-add_rows.ensures in
     rw (p.1, p.2) (record {
       refuses = counts_told c.args.operators.now c.args.edges.now c.args.counts.now (net c.add_rows.new.sheet) _ rows.refuses rows.reads c.in_ok-join_edges.ensures.refuses c.in_err-set_counts.ensures.refuses;

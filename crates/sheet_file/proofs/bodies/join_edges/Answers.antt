@@ -36,7 +36,7 @@ join_edge-requires c =
 
 pub returns-in_err-join_edge : goal.returns-in_err-join_edge
 returns-in_err-join_edge c =
-    let p = err_from_is_err_and c.from-residual.result c.from-residual.ensures.1 in
+    let p = err_from_is_err_and c.from_residual.result c.from_residual.ensures.1 in
     let bs = c.args.body.now in
     let i = c.loop-left.i in
     let base = net c.args.sheet.now in

@@ -5,7 +5,7 @@ use Rattle.sheet_file.proofs.loads.load.Goals as goal
 
 pub returns-in_err-reader : goal.returns-in_err-reader
 returns-in_err-reader c =
-    let p = err_from_is_err_and c.from-residual.result c.from-residual.ensures.1 in
+    let p = err_from_is_err_and c.from_residual.result c.from_residual.ensures.1 in
     let f = c.args.file.now in
     let e = c.in_err-reader.field-0.0 in
     rw (p.1, p.2) (reads_refused f e (contents_told f e c.in_err-reader.ensures.refuses))

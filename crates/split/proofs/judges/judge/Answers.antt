@@ -18,7 +18,7 @@ none = record { mask = 0; kind = 0 }
 pub returns-in_err-load : goal.returns-in_err-load
 unfolding none
 returns-in_err-load g c =
-    let p = err_from_is_err_and c.from-residual.result c.from-residual.ensures.1 in
+    let p = err_from_is_err_and c.from_residual.result c.from_residual.ensures.1 in
     let n = net c.args.sheet.now in
     let e = kinds (g.K.Kind.meaning c.args.first.now) (g.L.Kind.meaning c.args.second.now) in
     let s = g.S.Scale.rules c.args.scale.now in

@@ -5,4 +5,4 @@ use Rattle.stage_memo.proofs.memos.StageMemo.figures.Goals as goal
 pub invariant_of-result : goal.invariant_of-result
 invariant_of-result c =
     let s = c.args.self.now in
-    (right_small (memo_net s) (kept_by_sheet s.sheet.now) c.reach-known.result c.reach-known.ensures.right, tt)
+    record { small = right_small (memo_net s) (kept_by_sheet s.sheet.now) c.reach-known.result c.reach-known.ensures.right }

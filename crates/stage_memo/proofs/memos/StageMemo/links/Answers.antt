@@ -17,7 +17,7 @@ offset_bounds-self-v c = omega (arith, lowest_few c.loop-v.left c.in-Some.v c.ta
 pub bounds-self-v : goal.bounds-self-v
 bounds-self-v c = lowest_few c.loop-v.left c.in-Some.v c.take_lowest.new.mask c.in-Some.ensures
 
-step : (c : goal.After-way-told·1)
+step : (c : goal.After-way_told-1)
     → (c.loop-v.total + (get_or c.args.self.now.places c.in-Some.v vacant).link) + sum_by (λ v. (row (memo_net c.args.self.now) v).link) (members c.take_lowest.new.mask)
     ≡ sum_by (λ v. (row (memo_net c.args.self.now) v).link) (members c.args.set)
 step c =

@@ -6,4 +6,9 @@ use Rattle.stage_memo.proofs.memos.StageMemo.new.Goals as goal
 pub invariant_of-result : goal.invariant_of-result
 invariant_of-result c =
     let all : c.loop-v.v ≡ 64 = search rules in
-    ((c.loop-v.invariant.0, refl), ((λ v h. (c.loop-v.invariant.1 v (rw all h)).0), ((λ v h. (c.loop-v.invariant.1 v (rw all h)).1), ((λ v. nothing_known (net c.args.sheet.now) 64 v), tt))))
+    record {
+      tables = (c.loop-v.invariant.0, refl);
+      weighs = λ v h. (c.loop-v.invariant.1 v (rw all h)).0;
+      links = λ v h. (c.loop-v.invariant.1 v (rw all h)).1;
+      right = λ v. nothing_known (net c.args.sheet.now) 64 v;
+    }

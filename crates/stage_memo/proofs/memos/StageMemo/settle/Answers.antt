@@ -24,7 +24,12 @@ invariant_of-self c =
     let s = c.loop-v.self in
     let v = c.in-Some.v in
     let k = c.with_below-known.result in
-    ((s.tables.0, length-set s.known v k ∙ s.tables.1), (s.weighs, (s.links, (right_set (memo_net s) s.known v k (omega (arith, c.in-Some.ensures.0, s.tables.1)) s.right c.with_below-known.ensures.right, tt))))
+    record {
+      tables = (s.tables.0, length-set s.known v k ∙ s.tables.1);
+      weighs = s.weighs;
+      links = s.links;
+      right = right_set (memo_net s) s.known v k (omega (arith, c.in-Some.ensures.0, s.tables.1)) s.right c.with_below-known.ensures.right;
+    }
 
 pub loop-v-smaller : goal.loop-v-smaller
 loop-v-smaller c = highest_less c.loop-v.left c.in-Some.v c.take_highest.new.mask c.in-Some.ensures

@@ -37,7 +37,7 @@ returns c =
     let acc = acc_added s k v c.requires.place c.requires.below c.requires.right in
     let cpu = cpu_added s k v c.requires.place c.requires.below c.requires.right in
     let size = size_added s k v c.requires.place c.requires.below c.requires.right in
-    let feeding = feeding_added s k v c.requires.place c.requires.below c.requires.right c.union.result c.include-mask.result c.difference-2.result c.union.type-inv c.include-mask.type-inv c.union.ensures more c.difference-2.ensures in
+    let feeding = feeding_added s k v c.requires.place c.requires.below c.requires.right c.union.result c.include-mask.result c.difference-2.result c.union.type_inv c.include-mask.type_inv c.union.ensures more c.difference-2.ensures in
     let incoming = incoming_added s k v c.requires.place c.requires.below c.requires.right c.holds.result c.charge-fed.result c.difference.result c.links-fresh.result
     c.holds.ensures c.charge-fed.ensures c.difference.ensures c.links-fresh.ensures.value in
     let outgoing = outgoing_added s k v c.requires.place c.requires.below c.requires.right c.is_inside.result c.charge-sent.result c.is_inside.ensures c.charge-sent.ensures in
