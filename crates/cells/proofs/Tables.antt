@@ -38,6 +38,13 @@ module _ {R : Type 0} (s : Rules R) where
       (λ ne. rw (get_or-set_other rs t k r s.start ne, get_or-set_other cs t k by no_choice ne) (sym (poked_else t f (cell_at s rs cs) k ne)))
       (cases_eq k t)
 
+  -- both tables are as they were, and so is the cell t
+  pub unturned : (rs : List R) (cs : List Choice) (t : ℕ) (f : Cell R → Cell R) → f (cell_at s rs cs t) ≡ cell_at s rs cs t → Turns s rs cs rs cs (poked s t f)
+  unturned rs cs t f e k = ⊎_elim
+      (λ q. rw q (sym e ∙ sym (poked_here t f (cell_at s rs cs) t refl)))
+      (λ ne. sym (poked_else t f (cell_at s rs cs) k ne))
+      (cases_eq k t)
+
   -- one cell more is offered
   pub shifted_more : (by : Choice) (x : PlainLoad) (f t n : ℕ) → f + n < t → (t₀ t₁ t₂ : ℕ → Cell R) → ((k : ℕ) → t₁ k ≡ shifted s by x f t n t₀ k) → ((k : ℕ) → t₂ k ≡ poked s (t + n) (offered s by x (t₁ (f + n))) t₁ k) → (k : ℕ) → t₂ k ≡ shifted s by x f t (n + 1) t₀ k
   shifted_more by x f t n h t₀ t₁ t₂ e₁ e₂ k = ⊎_elim

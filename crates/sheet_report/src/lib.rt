@@ -15,10 +15,9 @@ use refusals::Refusal;
 use scale::{Line, Pair, Peak, Scale};
 use sheet::{Sheet, StageFigures};
 use std::alloc::{AllocError, Global};
-use std::fmt;
 
 // Appends a space and the number for each operator of a set, ascending.
-fn put_members(text: &mut String, set: u64) -> fmt::Result
+fn put_members(text: &mut String, set: u64) -> Result<(), AllocError>
     ensures { OnOk result (string_bytes text.new ≡ string_bytes text.old ++ flat_map spaced (members set)) }
 {
     let mut left = set;
@@ -29,7 +28,7 @@ fn put_members(text: &mut String, set: u64) -> fmt::Result
 }
 
 // Appends the operators of a set, or that there is none.
-fn put_set(text: &mut String, set: u64) -> fmt::Result
+fn put_set(text: &mut String, set: u64) -> Result<(), AllocError>
     ensures { OnOk result (string_bytes text.new ≡ string_bytes text.old ++ listed (members set)) }
 {
     if sets::size(set) == 0 {
@@ -39,7 +38,7 @@ fn put_set(text: &mut String, set: u64) -> fmt::Result
 }
 
 // Appends the lines before the operators.
-fn put_summary(text: &mut String, sheet: &Sheet) -> fmt::Result
+fn put_summary(text: &mut String, sheet: &Sheet) -> Result<(), AllocError>
     ensures { OnOk result (string_bytes text.new ≡ string_bytes text.old ++ summary (net sheet.now)) }
 {
     let operators = sheet.operators();
@@ -52,7 +51,7 @@ fn put_summary(text: &mut String, sheet: &Sheet) -> fmt::Result
 }
 
 // Appends the end of an operator's line: the operators before it and those after it.
-fn put_neighbours(text: &mut String, sources: u64, targets: u64) -> fmt::Result
+fn put_neighbours(text: &mut String, sources: u64, targets: u64) -> Result<(), AllocError>
     ensures { OnOk result (string_bytes text.new ≡ string_bytes text.old ++ neighbours (members sources) (members targets)) }
 {
     write!(text, ", predecessors")?;
@@ -63,7 +62,7 @@ fn put_neighbours(text: &mut String, sources: u64, targets: u64) -> fmt::Result
 }
 
 // Appends the line of an operator.
-fn put_row(text: &mut String, sheet: &Sheet, v: usize) -> fmt::Result
+fn put_row(text: &mut String, sheet: &Sheet, v: usize) -> Result<(), AllocError>
     requires { v < size (net sheet.now) }
     ensures { OnOk result (string_bytes text.new ≡ string_bytes text.old ++ row_line (net sheet.now) v) }
 {
@@ -77,7 +76,7 @@ fn put_row(text: &mut String, sheet: &Sheet, v: usize) -> fmt::Result
 }
 
 // Appends the lines of all operators.
-fn put_rows(text: &mut String, sheet: &Sheet) -> fmt::Result
+fn put_rows(text: &mut String, sheet: &Sheet) -> Result<(), AllocError>
     ensures { OnOk result (string_bytes text.new ≡ string_bytes text.old ++ row_lines (net sheet.now)) }
 {
     for v in 0..sheet.operators() {
@@ -87,7 +86,7 @@ fn put_rows(text: &mut String, sheet: &Sheet) -> fmt::Result
 }
 
 // Appends the line of a stage's figures.
-fn put_figures(text: &mut String, stage: &StageFigures) -> fmt::Result
+fn put_figures(text: &mut String, stage: &StageFigures) -> Result<(), AllocError>
     ensures { OnOk result (string_bytes text.new ≡ string_bytes text.old ++ stage_line (sums stage.now)) }
 {
     writeln!(
@@ -98,7 +97,7 @@ fn put_figures(text: &mut String, stage: &StageFigures) -> fmt::Result
 }
 
 // Appends what a load rates on each scale, and ends the line.
-fn put_ratings(text: &mut String, load: &Load) -> fmt::Result
+fn put_ratings(text: &mut String, load: &Load) -> Result<(), AllocError>
     ensures { OnOk result (string_bytes text.new ≡ string_bytes text.old ++ ratings (load_of load.now)) }
 {
     let peak = Peak.join(Peak.start(), load);
@@ -112,7 +111,7 @@ fn put_ratings(text: &mut String, load: &Load) -> fmt::Result
 }
 
 // Appends what a device kind answers for a stage, and ends the line.
-fn put_load<K: Kind>(text: &mut String, kind: &K, stage: &StageFigures) -> fmt::Result
+fn put_load<K: Kind>(text: &mut String, kind: &K, stage: &StageFigures) -> Result<(), AllocError>
     ensures { OnOk result (string_bytes text.new ≡ string_bytes text.old ++ load_line (K.Kind.meaning kind.now (sums stage.now))) }
 {
     let Some(load) = kind.load(stage) else {
@@ -127,7 +126,7 @@ fn put_accelerator(
     text: &mut String,
     accelerator: &Accelerator,
     stage: &StageFigures,
-) -> fmt::Result
+) -> Result<(), AllocError>
     ensures { OnOk result (string_bytes text.new ≡ string_bytes text.old ++ accelerator_line accelerator.now.limit (sums stage.now)) }
 {
     let limit = accelerator.limit();
@@ -136,7 +135,7 @@ fn put_accelerator(
 }
 
 // Appends the line of a stage on a processor.
-fn put_processor(text: &mut String, stage: &StageFigures) -> fmt::Result
+fn put_processor(text: &mut String, stage: &StageFigures) -> Result<(), AllocError>
     ensures { OnOk result (string_bytes text.new ≡ string_bytes text.old ++ processor_line (sums stage.now)) }
 {
     write!(text, "processor: ")?;
@@ -144,7 +143,11 @@ fn put_processor(text: &mut String, stage: &StageFigures) -> fmt::Result
 }
 
 // Appends the lines of all operators as one stage.
-fn put_network(text: &mut String, sheet: &Sheet, accelerator: &Accelerator) -> fmt::Result
+fn put_network(
+    text: &mut String,
+    sheet: &Sheet,
+    accelerator: &Accelerator,
+) -> Result<(), AllocError>
     ensures { OnOk result (string_bytes text.new ≡ string_bytes text.old ++ network_lines accelerator.now.limit (net sheet.now)) }
 {
     let stage = sheet.figures(sheet.all());
@@ -154,7 +157,7 @@ fn put_network(text: &mut String, sheet: &Sheet, accelerator: &Accelerator) -> f
 }
 
 // Appends all that is reported of a sheet.
-fn put_sheet(text: &mut String, sheet: &Sheet, accelerator: &Accelerator) -> fmt::Result
+fn put_sheet(text: &mut String, sheet: &Sheet, accelerator: &Accelerator) -> Result<(), AllocError>
     ensures { OnOk result (string_bytes text.new ≡ string_bytes text.old ++ described accelerator.now.limit (net sheet.now)) }
 {
     put_summary(text, sheet)?;
@@ -171,11 +174,8 @@ pub fn describe(
     ensures { IfOk result (λ t. string_bytes t ≡ described accelerator.now.limit (net sheet.now)) }
 {
     let mut text = String::new(heap);
-    match put_sheet(&mut text, sheet, accelerator) {
-        Ok(()) => Ok(text),
-        // the text found no memory
-        Err(_) => Err(AllocError),
-    }
+    put_sheet(&mut text, sheet, accelerator)?;
+    Ok(text)
 }
 
 // The report on what is refused.
