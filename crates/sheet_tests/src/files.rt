@@ -97,8 +97,8 @@ fn a_reader_hands_out_the_bodies_with_their_places(rt: HostRuntime) -> Result<()
     assert_eq!(rt; reader.operators().place, 20);
     assert_eq!(rt; reader.operators().bytes, &DIAMOND[20..84]);
     assert_eq!(rt; reader.edges().place, 84);
-    assert_eq!(rt; reader.edges().bytes, &[0, 1, 0, 2, 1, 3, 2, 3]);
+    assert_eq!(rt; reader.edges().bytes, [0, 1, 0, 2, 1, 3, 2, 3].as_slice());
     assert_eq!(rt; reader.counts().place, 92);
-    assert_eq!(rt; reader.counts().bytes, &[2, 0]);
+    assert_eq!(rt; reader.counts().bytes, [2, 0].as_slice());
     Ok(())
 }
