@@ -1,5 +1,5 @@
 -- What a cell's choice leads to.
-use Rattle.std.proofs.Common.{◌≡◌, ℕ, zero, suc, ◌+◌, ◌-◌, ◌*◌, ◌<◌, ◌≤◌, Bool, true, false, cond, eqb, List, [], ◌∷◌, ◌++◌, reverse, length, get_or, take, set, Some, None, Option, sym, refl, ap, ◌∙◌, mul_assoc, add-mul, arith}
+use Rattle.std.proofs.Common.{◌≡◌, ℕ, zero, suc, ◌+◌, ◌-◌, ◌*◌, ◌<◌, ◌≤◌, Bool, true, false, cond, List, [], ◌∷◌, ◌++◌, reverse, length, take, set, Some, None, Option, sym, refl, ap, ◌∙◌, mul_assoc, add-mul, arith}
 use lib.Bits.{bit_and}
 use Rattle.std.proofs.lemmas.List.{append_assoc, reverse-append, take_more_set}
 use Rattle.std.proofs.lemmas.Bool.{eqb-true}

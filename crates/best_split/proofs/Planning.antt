@@ -1,5 +1,5 @@
 -- What is solved over the front of the table is solved over all ideals, and is a least split.
-use Rattle.std.proofs.Common.{◌≡◌, ℕ, ◌-◌, ◌≤◌, Bool, true, false, cond, ◌&&◌, leb, List, [], ◌∷◌, ◌++◌, length, take, drop, is_some, IfOk, Some, None, Ok, Err, Option, Result, sym, refl, ap, ◌∙◌, subst, arith}
+use Rattle.std.proofs.Common.{◌≡◌, ℕ, ◌-◌, ◌≤◌, Bool, true, false, cond, ◌&&◌, leb, List, [], length, take, drop, is_some, IfOk, Some, None, Ok, Err, Option, Result, sym, refl, ap, ◌∙◌, subst, arith}
 use Rattle.std.proofs.lemmas.List.{take_at, take_all}
 use Rattle.std.proofs.lemmas.Bool.{and_parts, le-leb, leb-true}
 use Rattle.refusals.specs.declared.Refusal.{Refusal}
@@ -10,13 +10,13 @@ use Rattle.sheet.specs.Nets.{Net}
 use Rattle.sheet.specs.Changes.{unless, first}
 use Rattle.scale.specs.Rules.{Rules}
 use Rattle.split.specs.declared.stages.Stage.{Stage}
-use Rattle.split.specs.Splits.{Kinds, Lawful, Least}
+use Rattle.split.specs.Splits.{Kinds, Least}
 use Rattle.ideals.specs.Ideals.{ideals, room, over, fitting}
 use Rattle.recurrence.specs.Planned.{setting_over, setting, best_of, split_of, Planned}
 use Rattle.cells.specs.declared.choices.Choice.{Choice}
 use Rattle.best_split.specs.declared.finds.Found.{Found}
 use Rattle.best_split.specs.Views.{stages_of}
-use Rattle.best_split.specs.Finds.{cells_fit, enough, find_refusal, Solves, Finds}
+use Rattle.best_split.specs.Finds.{cells_fit, Solves, Finds}
 
 count_is : (most n m : ℕ) → Some m ≡ fitting most n → (m ≡ n) × (n ≤ most)
 count_is most n m e = go (leb n most) refl e

@@ -1,5 +1,5 @@
 -- What is left of each way through finding a split.
-use Rattle.std.proofs.Common.{◌≡◌, ℕ, ◌+◌, ◌-◌, ◌*◌, ◌<◌, ◌≤◌, Bool, true, false, ◌&&◌, leb, List, [], length, is_some, Some, None, Ok, Err, Option, sym, refl, ap, ◌∙◌, subst, mul_assoc, arith}
+use Rattle.std.proofs.Common.{◌≡◌, ℕ, ◌+◌, ◌*◌, ◌≤◌, true, false, leb, List, length, is_some, Some, None, Ok, Err, Option, sym, refl, ap, ◌∙◌, mul_assoc, arith}
 use Rattle.std.proofs.lemmas.Bool.{and_parts, le-leb, leb-true, both_ways}
 use Rattle.refusals.specs.declared.Refusal.TheVariants.{TooFewCells, NoLawfulSplit}
 use Rattle.refusals.specs.Told.{told}

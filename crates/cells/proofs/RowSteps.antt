@@ -1,9 +1,8 @@
-use Rattle.std.proofs.Common.{◌≡◌, ℕ, zero, suc, ◌+◌, ◌-◌, ◌*◌, ◌<◌, ◌≤◌, ◌≢◌, ◌⊎◌, List, Some, None, Option, sym, refl, ap, ◌∙◌, subst, inl, inr, ⊎_elim, mul-le-mul_right, suc-mul, add-mul, zero-mul, add-one, arith}
-use Rattle.std.proofs.lemmas.Bool.{cases_eq, cases_lt}
+use Rattle.std.proofs.Common.{◌≡◌, ℕ, zero, suc, ◌+◌, ◌-◌, ◌*◌, ◌<◌, ◌≤◌, Some, Option, refl, ap, ◌∙◌, ⊎_elim, mul-le-mul_right, suc-mul, add-mul, zero-mul, arith}
+use Rattle.std.proofs.lemmas.Bool.{cases_eq}
 use Rattle.scale.specs.Rules.{Rules}
 use Rattle.device.specs.Loads.{PlainLoad}
-use Rattle.cells.specs.declared.choices.Choice.{Choice}
-use Rattle.cells.specs.Cells.{Cell, cell_at, offered, shifted}
+use Rattle.cells.specs.Cells.{Cell, offered, shifted}
 use Rattle.cells.proofs.Tables.{shifted_in, shifted_under, shifted_over}
 use Rattle.cells.specs.Rows.{place, by_first, by_second, row, tried, first, second, both, Onto}
 

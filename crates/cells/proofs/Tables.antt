@@ -1,9 +1,9 @@
-use Rattle.std.proofs.Common.{◌≡◌, ℕ, ◌+◌, ◌-◌, ◌<◌, ◌≤◌, Bool, true, false, cond, not, ◌&&◌, ◌||◌, eqb, ltb, leb, ◌≢◌, ◌⊎◌, List, length, get_or, set, sym, refl, ap, ◌∙◌, inl, inr, ⊎_elim, arith, get_or-set_other, get_or-set_same}
+use Rattle.std.proofs.Common.{◌≡◌, ℕ, ◌+◌, ◌-◌, ◌<◌, ◌≤◌, true, false, eqb, List, length, set, sym, refl, ◌∙◌, ⊎_elim, arith, get_or-set_other, get_or-set_same}
 use Rattle.std.proofs.lemmas.Bool.{cases_eq, cases_lt, eq-eqb, ne_eqb, le-leb, lt-ltb, le-ltb, lt-leb, and_from, and_left, and_right, cond-true, cond-false}
 use Rattle.scale.specs.Rules.{Rules}
 use Rattle.device.specs.Loads.{PlainLoad}
 use Rattle.cells.specs.declared.choices.Choice.{Choice}
-use Rattle.cells.specs.Cells.{Cell, no_choice, cell_at, lowered, offered, poked, shifted, span, clear_cell, cleared, Turns}
+use Rattle.cells.specs.Cells.{Cell, no_choice, cell_at, offered, poked, shifted, span, clear_cell, cleared, Turns}
 
 pub span_in : (t n k : ℕ) → t ≤ k → k < t + n → span t n k ≡ true
 span_in t n k a b = and_from _ _ (le-leb t k a) (lt-ltb k (t + n) b)

@@ -1,15 +1,14 @@
 -- The list of the ideals of a sheet's network.
-use Rattle.std.proofs.Common.{◌≡◌, ℕ, ◌-◌, ◌^◌, ◌<◌, ◌≤◌, true, List, ◌∷◌, ◌++◌, length, get_or, take, None, sym, ap, ◌∙◌, subst, inl, inr, arith}
+use Rattle.std.proofs.Common.{◌≡◌, ℕ, ◌-◌, ◌^◌, ◌<◌, List, ◌++◌, length, get_or, sym, ap, ◌∙◌, inl, inr, arith}
 use Rattle.std.proofs.ByRecursion.{All-get_or}
 use Rattle.std.proofs.lemmas.Bool.{cases_lt}
-use Rattle.sets.specs.Sets.{has, In, full}
-use Rattle.sets.proofs.Sets.{full_lt}
+use Rattle.sets.specs.Sets.{In, full}
 use Rattle.sheet.specs.Nets.{Net, size, Edge, before}
 use Rattle.sheet.specs.Kept.{Kept}
 use Rattle.sheet.proofs.Charges.{before_means}
-use Rattle.ideals.specs.Ideals.{Ideal, ideals, grown}
+use Rattle.ideals.specs.Ideals.{ideals}
 use Rattle.ideals.specs.Listing.{Listing}
-use Rattle.ideals.proofs.Elements.{Listed, ascends_read}
+use Rattle.ideals.proofs.Elements.{ascends_read}
 use Rattle.ideals.proofs.Growing.{grown_none, grown_small, grown_whole, grown_some}
 use Rattle.ideals.proofs.Members.{Closed, grown_closed, closed_listed, full_closed, grown_ascends}
 

@@ -1,7 +1,7 @@
 -- The list holds a set exactly if it is an ideal, and ascends.
-use Rattle.std.proofs.Common.{◌≡◌, ℕ, zero, suc, ◌+◌, ◌-◌, ◌^◌, ◌<◌, ◌≤◌, Bool, true, false, ◌&&◌, ◌||◌, eqb, ltb, ◌⊎◌, List, [], ◌∷◌, ◌++◌, map, length, get_or, filter, sym, refl, ap, ◌∙◌, subst, inl, inr, pow-suc, arith}
+use Rattle.std.proofs.Common.{◌≡◌, ℕ, zero, suc, ◌+◌, ◌-◌, ◌^◌, ◌<◌, ◌≤◌, Bool, true, false, ◌&&◌, ◌||◌, eqb, ltb, ◌⊎◌, filter, sym, refl, ap, ◌∙◌, subst, inl, inr, pow-suc, arith}
 use Rattle.std.specs.List.{AllByRecursion as All}
-use Rattle.std.proofs.ByRecursion.{All-append, All-weaker, All-get_or, All-map, all_kept_by, kept_by_passes}
+use Rattle.std.proofs.ByRecursion.{All-append, All-weaker, All-map, all_kept_by, kept_by_passes}
 use Rattle.std.proofs.lemmas.Bool.{both_ways, cases_lt, cases_Bool, eqb-true, eq-eqb, lt-ltb, ltb-true}
 use Rattle.sets.specs.Sets.{has, In, inside, full, gathered}
 use Rattle.sets.proofs.Sets.{has_none, same_sets, has_above, has_including, has_full, inside_means, and_false}

@@ -1,5 +1,5 @@
 -- The list for networks that a reader can list by hand.
-use Rattle.std.specs.Prelude.{◌≡◌, ℕ, [], ◌∷◌}
+use Rattle.std.specs.Prelude.{◌≡◌, [], ◌∷◌}
 use Rattle.sheet.specs.Rules.{blank}
 use Rattle.sheet.specs.Nets.{Net, empty}
 use Rattle.ideals.specs.Ideals.{ideals}

@@ -1,7 +1,7 @@
 -- No way to a cell rates lower than the cell, and the stages read back from a cell are a way to it.
 --   Listed ms V           ms ascends from the empty set and holds just the sets that are V
 --   Reached ss a b p r    a way: the stages ss, with at most a and b devices, make up the set p and rate r; each set on the way is V
-use Rattle.std.proofs.Common.{◌≡◌, ℕ, zero, suc, ◌+◌, ◌-◌, ◌<◌, true, List, [], ◌∷◌, ◌++◌, length, get_or, Some, None, Option, sym, refl, ap, ◌∙◌, subst, inl, inr, arith}
+use Rattle.std.proofs.Common.{◌≡◌, ℕ, zero, suc, ◌-◌, ◌<◌, true, List, [], ◌∷◌, ◌++◌, length, get_or, Some, None, Option, sym, refl, ap, ◌∙◌, subst, inl, inr, arith}
 use Rattle.std.proofs.lemmas.Bool.{cases_lt, cond-true}
 use Rattle.sets.specs.Sets.{inside, either}
 use Rattle.device.specs.Loads.{PlainLoad, Fair}

@@ -1,6 +1,6 @@
 -- Joining by taking the larger one keeps the order, whatever the order is.
 use Rattle.std.specs.Prelude.{◌≡◌, Bool, true, false, cond, refl}
-use Rattle.std.proofs.Common.{sym, ◌∙◌, arith}
+use Rattle.std.proofs.Common.{arith}
 use Rattle.std.proofs.lemmas.Bool.Decides.{nat_tests}
 use Rattle.scale.specs.declared.pairs.PairRating.{PairRating}
 use Rattle.scale.specs.Scales.{pair_at_most}

@@ -1,15 +1,15 @@
 -- The members of a set: how many there are, the lowest of them, and the sets that tests gather.
-use Rattle.std.proofs.Common.{◌≡◌, ℕ, zero, suc, ◌+◌, ◌-◌, ◌*◌, ◌/◌, ◌%◌, ◌^◌, ◌<◌, ◌≤◌, Bool, true, false, cond, not, ◌&&◌, ◌||◌, eqb, ltb, ◌⊎◌, List, [], ◌∷◌, ◌++◌, length, sum_by, filter, sym, refl, ap, ◌∙◌, subst, inl, inr, append_assoc, append-nil, suc-mul, pow-suc, arith, length-append, pow_pos, pow_mono}
+use Rattle.std.proofs.Common.{◌≡◌, ℕ, zero, suc, ◌+◌, ◌-◌, ◌*◌, ◌/◌, ◌%◌, ◌^◌, ◌<◌, ◌≤◌, Bool, true, false, cond, not, ◌&&◌, ◌||◌, eqb, ltb, List, [], ◌∷◌, ◌++◌, length, sum_by, filter, sym, refl, ap, ◌∙◌, subst, inl, inr, append-nil, suc-mul, pow-suc, arith, length-append}
 use lib.Bits.{bit_and, bit_or, and_step, and_self, or_shifted_r}
-use lib.Count.{ones, ones_step, ones-le, count_trailing_zeros, under}
+use lib.Count.{ones, ones_step, ones-le, count_trailing_zeros}
 use Rattle.std.specs.List.{AllByRecursion as All}
 use Rattle.std.proofs.lemmas.List.Elements.{filter-append}
 use Rattle.std.proofs.ByRecursion.{All-append, All-weaker}
 use Rattle.std.proofs.lemmas.List.Sums.{sum_by_push}
-use Rattle.std.proofs.lemmas.Bool.{both_ways, cases_lt, cases_Bool, cases_eq, ne_eqb, eq-eqb, eqb-true, eqb-false, lt-ltb, le-ltb}
+use Rattle.std.proofs.lemmas.Bool.{cases_Bool, cases_eq, ne_eqb, eq-eqb, lt-ltb, le-ltb}
 use Rattle.std.proofs.lemmas.Bool.Decides.{nat_tests}
 use Rattle.sets.specs.Sets.{has, In, including, upto, members, gathered}
-use Rattle.sets.proofs.Sets.{and_true, and_false, or_false, has_lowest, has_half, lowest_even, lowest_odd, even_odd, has_none, has_or, has_single}
+use Rattle.sets.proofs.Sets.{and_true, and_false, or_false, has_half, lowest_even, lowest_odd, even_odd, has_none, has_or, has_single}
 
 -- ---- tests over the numbers below n
 

@@ -1,16 +1,16 @@
 -- When each change is refused, and that what it leads to keeps the rules.
-use Rattle.std.proofs.Common.{◌≡◌, ℕ, ◌+◌, ◌<◌, ◌≤◌, Bool, true, false, cond, not, ◌&&◌, ◌||◌, eqb, ltb, leb, ◌≢◌, ◌⊎◌, List, [], ◌∷◌, ◌++◌, length, get_or, take, set, sym, refl, ap, ◌∙◌, subst, inl, inr, arith, length-set}
-use Rattle.refusals.specs.declared.Refusal.TheVariants.{AboveLimit, SheetFull, NoOperator, NotUpward, EdgeExists}
+use Rattle.std.proofs.Common.{◌≡◌, ℕ, ◌+◌, ◌<◌, ◌≤◌, true, false, ◌&&◌, eqb, ltb, leb, List, [], ◌∷◌, ◌++◌, length, get_or, take, set, sym, refl, ap, ◌∙◌, subst, inl, inr, arith, length-set}
+use Rattle.refusals.specs.declared.Refusal.TheVariants.{AboveLimit, SheetFull, EdgeExists}
 use Rattle.refusals.specs.Told.{told}
 use Rattle.sets.specs.Sets.{has, In, including}
 use Rattle.sets.proofs.Sets.{has_none, has_including}
 use Rattle.std.proofs.lemmas.List.{length-take-le, get_or-take, get_or-set_same, get_or-set_other, get_or_past, length_push, get_or_append_left, get_or_push, take_more_set, set_past}
 use lib.Seq.{take-set-lt}
-use Rattle.std.proofs.lemmas.Bool.{le-ltb, lt-ltb, leb-true, and_parts, and_left, and_right, or_cases, eqb-true, both_ways, cases_eq, cases_lt}
+use Rattle.std.proofs.lemmas.Bool.{le-ltb, lt-ltb, leb-true, and_parts, or_cases, eqb-true, both_ways, cases_eq, cases_lt}
 use Rattle.sheet.specs.declared.operators.Operator.{Operator}
 use Rattle.sheet.specs.Rules.{most_operators, most_figure, blank, Within, Modest, Upward}
-use Rattle.sheet.specs.Nets.{Net, size, row, after}
-use Rattle.sheet.specs.Changes.{within, add_refusal, added, join_refusal, joined, retime_refusal, retimed}
+use Rattle.sheet.specs.Nets.{Net, size, after}
+use Rattle.sheet.specs.Changes.{within, add_refusal, added, join_refusal, joined, retime_refusal}
 
 -- ---- one operator more
 

@@ -1,11 +1,11 @@
 -- Sums over sets of operators, and how large they can be.
-use Rattle.std.proofs.Common.{◌≡◌, ℕ, ◌+◌, ◌*◌, ◌<◌, ◌≤◌, Bool, true, false, not, ◌&&◌, ltb, List, [], ◌∷◌, length, get_or, Decides, sum_by, filter, sym, refl, ap, ◌∙◌, subst, inl, inr, mul-le-mul_right, arith}
+use Rattle.std.proofs.Common.{◌≡◌, ℕ, ◌+◌, ◌<◌, ◌≤◌, Bool, true, false, not, ◌&&◌, ltb, List, [], ◌∷◌, length, sum_by, filter, sym, refl, ap, ◌∙◌, subst, inl, inr, arith}
 use Rattle.std.specs.List.{AllByRecursion as All}
 use Rattle.std.proofs.lemmas.List.Sums.{sum_by-cons}
-use Rattle.std.proofs.ByRecursion.{sum_by_le, All-weaker, All-from_get_or}
+use Rattle.std.proofs.ByRecursion.{sum_by_le, All-weaker}
 use Rattle.std.proofs.lemmas.List.{length-take-le, get_or_past}
 use Rattle.std.proofs.lemmas.Bool.{and_parts, and_from, false≢true, cases_lt, lt-ltb, le-ltb}
-use Rattle.sets.specs.Sets.{has, In, inside, meeting, both, members, full, upto, gathered}
+use Rattle.sets.specs.Sets.{has, inside, meeting, both, members, full, upto, gathered}
 use Rattle.sets.proofs.Sets.{has_and, has_none, has_full, meeting_means, some_outside, outside_some}
 use Rattle.sets.proofs.Members.{members_few, members_kept, members_gathered, has_gathered, kept_all}
 use Rattle.sheet.specs.declared.operators.Operator.{Operator}

@@ -1,5 +1,5 @@
 -- From the three bodies to the sheet, and from the file to what loading it promises.
-use Rattle.std.proofs.Common.{◌≡◌, ℕ, ◌+◌, ◌≤◌, List, [], length, get_or, IfOk, Ok, Err, Result, sym, refl, ap, ◌∙◌, subst, arith}
+use Rattle.std.proofs.Common.{◌≡◌, ℕ, ◌≤◌, List, [], length, get_or, IfOk, Ok, Err, Result, sym, ap, ◌∙◌, subst, arith}
 use Rattle.std.proofs.lemmas.Bool.{both_ways}
 use Rattle.refusals.specs.declared.Refusal.{Refusal}
 use Rattle.refusals.specs.Told.{told, outcome}
@@ -9,13 +9,13 @@ use Rattle.sheet.specs.declared.sheets.Sheet.{Sheet}
 use Rattle.sheet.specs.Nets.{Net, size, Edge, empty}
 use Rattle.sheet.specs.Changes.{first, counted}
 use Rattle.sheet.specs.Views.{net}
-use Rattle.sheet_layout.specs.Contents.{length_of, body, contents_refusal}
+use Rattle.sheet_layout.specs.Contents.{body, contents_refusal}
 use Rattle.sheet_layout.specs.Bodies.{first_wrong, row_refusal, edge_refusal, counts_refusal, rows_in, edges_in, with_rows, with_edges, bodies_refusal, net_of_bodies, net_of, file_refusal}
 use Rattle.sheet_layout.specs.Layout.{LaidOut}
 use Rattle.sheet_file.specs.Reads.{Reads}
 use Rattle.refusals.proofs.Tellings.{told_something}
 use Rattle.sheet_layout.proofs.Edges.{with_rows_size, with_rows_after}
-use Rattle.sheet_layout.proofs.Heads.{RightHead, contents_right}
+use Rattle.sheet_layout.proofs.Heads.{contents_right}
 use Rattle.sheet_layout.proofs.Places.{body_length}
 use Rattle.sheet_layout.proofs.Accepted.{good_laid_out, laid_out_good}
 use Rattle.sheet_layout.proofs.Unique.{laid_out_unique}

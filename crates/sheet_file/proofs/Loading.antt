@@ -1,12 +1,12 @@
 -- Reading a file's bodies entry by entry: the first complaint, and why an edge that is there already does not ascend.
-use Rattle.std.proofs.Common.{◌≡◌, ℕ, zero, suc, ◌+◌, ◌-◌, ◌*◌, ◌<◌, ◌≤◌, Bool, true, false, cond, not, ◌&&◌, ◌||◌, eqb, ltb, ◌⊎◌, List, [], ◌∷◌, length, get_or, take, drop, sym, refl, ap, ◌∙◌, subst, inl, inr, arith, length-drop}
+use Rattle.std.proofs.Common.{◌≡◌, ℕ, zero, suc, ◌+◌, ◌-◌, ◌*◌, ◌<◌, ◌≤◌, Bool, true, false, ◌&&◌, ltb, List, [], ◌∷◌, length, get_or, take, drop, sym, refl, ap, ◌∙◌, subst, inl, inr, arith, length-drop}
 use Rattle.std.proofs.lemmas.List.{get_or-drop, take_rest, drop-drop}
-use Rattle.std.proofs.lemmas.Bool.{cases_Bool, cases_eq, both_ways}
+use Rattle.std.proofs.lemmas.Bool.{cases_Bool, cases_eq}
 use Rattle.refusals.specs.declared.Refusal.{Refusal}
 use Rattle.refusals.specs.Told.{told}
 use Rattle.sets.specs.Sets.{has}
 use Rattle.sheet.specs.Nets.{Net, size, after, Edge, empty}
-use Rattle.sheet.specs.Changes.{unless, first, join_refusal, added, joined}
+use Rattle.sheet.specs.Changes.{first, join_refusal, added, joined}
 use Rattle.sheet_layout.specs.Bodies.{row_at, from, to, ascends, first_wrong, edge_refusal, with_rows, with_edges}
 use Rattle.sheet_layout.specs.Layout.{Before}
 use Rattle.sheet_file.specs.Loading.{edge_reason, Listing}

@@ -5,7 +5,7 @@
 --   first_wrong check n    what is told of the first of n entries that a check complains of
 --   file_refusal f         what is told of the first wrong thing in a file, nothing where the file is good
 --   net_of f               the sheet of a good file: its rows added, its edges joined, its counts set
-use Rattle.std.specs.Prelude.{ℕ, zero, suc, ◌+◌, ◌*◌, ◌/◌, Bool, true, ◌&&◌, ◌||◌, List, [], ◌∷◌, length, ◌==◌, nat_le, nat_lt, slice_index}
+use Rattle.std.specs.Prelude.{ℕ, zero, suc, ◌+◌, ◌*◌, ◌/◌, Bool, true, ◌&&◌, ◌||◌, List, [], length, ◌==◌, nat_le, nat_lt, slice_index}
 use Rattle.byte_fields.specs.Little.{field}
 use Rattle.refusals.specs.declared.Reason.TheVariants as reasons
 use Rattle.refusals.specs.declared.Refusal.TheVariants.{BodyEntry}

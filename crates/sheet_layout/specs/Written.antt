@@ -10,7 +10,6 @@ use Rattle.sets.specs.Sets.{members, upto}
 use Rattle.sheet.specs.declared.operators.Operator.{Operator}
 use Rattle.sheet.specs.Nets.{Net, size, after}
 use Rattle.sheet_layout.specs.Contents.{letters}
-use Rattle.sheet_layout.specs.Layout.{edges_at}
 
 abbrev pub entry_bytes : ℕ → ℕ → ℕ → List ℕ
 entry_bytes section offset len = section ∷ (spread 2 offset ++ spread 2 len)

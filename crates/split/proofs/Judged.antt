@@ -1,10 +1,10 @@
 -- What the judge promises, from the first rule that is broken.
-use Rattle.std.proofs.Common.{◌≡◌, ℕ, List, [], Some, Ok, Err, sym, refl, ◌∙◌}
+use Rattle.std.proofs.Common.{◌≡◌, List, [], Some, Ok, Err, sym, refl, ◌∙◌}
 use Rattle.sheet.specs.Nets.{Net}
 use Rattle.scale.specs.Rules.{Rules}
 use Rattle.split.specs.declared.stages.Stage.{Stage}
 use Rattle.split.specs.declared.stages.Breach.{Breach}
-use Rattle.split.specs.Splits.{Kinds, Lawful, rate}
+use Rattle.split.specs.Splits.{Kinds, rate}
 use Rattle.split.specs.Breaches.{told_breach, breach}
 use Rattle.split.specs.Judged.{Judged}
 use Rattle.split.proofs.Checks.{told_something}

@@ -4,7 +4,7 @@
 --   device_breach n w i k    whether a device of kind k is left after a walk w
 --   stage_breach n e w i s   what stage s, with index i, breaks after a walk w over the stages before it
 --   breach n e ss            what a list of stages breaks, nothing where it is lawful
-use Rattle.std.specs.Prelude.{ℕ, zero, suc, ◌+◌, Bool, true, cond, not, ◌&&◌, List, [], ◌∷◌, is_some, Ok, Err, Result, ◌==◌, nat_lt}
+use Rattle.std.specs.Prelude.{ℕ, zero, suc, ◌+◌, Bool, cond, not, ◌&&◌, List, [], ◌∷◌, is_some, Ok, Err, Result, ◌==◌, nat_lt}
 use Rattle.sets.specs.Sets.{has, inside, meeting, either, full, gathered}
 use Rattle.sheet.specs.Nets.{Net, size, after}
 use Rattle.sheet.specs.Changes.{unless, first}

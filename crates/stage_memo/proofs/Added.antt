@@ -5,15 +5,15 @@ use Rattle.sets.specs.Sets.{has, In, inside, either, without, including, members
 use Rattle.sets.proofs.Members.{gathered_lt}
 use Rattle.sheet.specs.declared.operators.Figure.TheVariants.{Acc, Cpu, Size, Link}
 use Rattle.sheet.specs.Rules.{most_sum}
-use Rattle.sheet.specs.Nets.{Net, size, row, after, before}
+use Rattle.sheet.specs.Nets.{Net, size, row, after}
 use Rattle.sheet.specs.Kept.{Kept}
 use Rattle.sheet.specs.Figures.{feeds, leaves, charged}
 use Rattle.stage_memo.specs.declared.known.Known.{Known}
 use Rattle.stage_memo.specs.declared.places.Place.{Place}
 use Rattle.stage_memo.specs.declared.memos.StageMemo.{StageMemo}
-use Rattle.stage_memo.specs.Entries.{Stands, Right, vacant}
+use Rattle.stage_memo.specs.Entries.{Right, vacant}
 use Rattle.stage_memo.specs.Views.{memo_net}
-use Rattle.stage_memo.proofs.Below.{has_feeding, charged_more, feeding_more, incoming_more, fresh, fresh_members, outgoing_more}
+use Rattle.stage_memo.proofs.Below.{has_feeding, charged_more, feeding_more, incoming_more, fresh_members, outgoing_more}
 use Rattle.stage_memo.proofs.Whole.{charged_le, kept_by_sheet}
 
 pub included : (m v r : ℕ) → v < 64 → r ≡ cond (ltb v 64) (including m v) m → r ≡ including m v

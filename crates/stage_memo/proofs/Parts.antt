@@ -1,12 +1,11 @@
 -- Sums over the operators that pass a test, taken apart.
-use Rattle.std.proofs.Common.{◌≡◌, ℕ, ◌+◌, ◌<◌, ◌≤◌, Bool, true, false, cond, not, ◌&&◌, ◌||◌, eqb, List, [], ◌∷◌, sum_by, filter, sym, refl, ap, ◌∙◌, inl, inr, arith}
+use Rattle.std.proofs.Common.{◌≡◌, ℕ, ◌+◌, ◌<◌, Bool, true, false, cond, not, ◌&&◌, ◌||◌, eqb, List, [], ◌∷◌, sum_by, filter, sym, refl, ap, ◌∙◌, inl, inr, arith}
 use Rattle.std.proofs.lemmas.List.Sums.{sum_by-cons}
 use Rattle.std.proofs.lemmas.List.{get_or_past}
 use Rattle.std.proofs.lemmas.Bool.{true≢false, cases_lt, eq-eqb, ne_eqb}
 use Rattle.sets.specs.Sets.{upto}
 use Rattle.sets.proofs.Sets.{and_true, and_false}
 use Rattle.sets.proofs.Members.{kept_same, kept_none, kept_first}
-use Rattle.sheet.specs.declared.operators.Operator.{Operator}
 use Rattle.sheet.specs.declared.operators.Figure.{Figure}
 use Rattle.sheet.specs.declared.operators.Figure.TheVariants.{Acc, Cpu, Size, Link}
 use Rattle.sheet.specs.Rules.{blank}

@@ -1,8 +1,8 @@
 -- How a set is taken apart from its lowest operator up, and put together again from the highest of those down.
-use Rattle.std.proofs.Common.{◌≡◌, ℕ, suc, ◌+◌, ◌-◌, ◌*◌, ◌%◌, ◌^◌, ◌<◌, ◌≤◌, Bool, true, false, not, ◌&&◌, ◌||◌, eqb, ◌∷◌, sym, refl, ap, ◌∙◌, subst, inl, inr, pow-suc, arith, pow_pos}
+use Rattle.std.proofs.Common.{◌≡◌, ℕ, suc, ◌-◌, ◌*◌, ◌%◌, ◌^◌, ◌<◌, ◌≤◌, Bool, true, false, not, ◌&&◌, ◌||◌, eqb, ◌∷◌, sym, refl, ap, ◌∙◌, inl, inr, pow-suc, arith, pow_pos}
 use lib.Count.{count_leading_zeros, leading_top}
 use Rattle.std.proofs.lemmas.Nat.{one_shl}
-use Rattle.std.proofs.lemmas.Bool.{both_ways, cases_Bool, cases_eq, eqb-true, eq-eqb, ne_eqb, or_cases, or_left, or_right, or_parts, and_parts, not-true}
+use Rattle.std.proofs.lemmas.Bool.{both_ways, eqb-true, eq-eqb, or_cases, or_left, or_right, and_parts, not-true}
 use Rattle.sets.specs.Sets.{has, In, including, without, members}
 use Rattle.sets.proofs.Sets.{has_including, has_difference, has_none, in_below, same_sets}
 use Rattle.sets.proofs.Members.{or_above}

@@ -1,9 +1,9 @@
 -- What a sheet keeps, how large its sums can be, and what is right of the set without operators.
-use Rattle.std.proofs.Common.{◌≡◌, ℕ, ◌<◌, ◌≤◌, Bool, false, not, ◌&&◌, eqb, ltb, List, length, get_or, set, replicate, sum_by, sym, refl, ap, ◌∙◌, subst, inl, inr, arith}
+use Rattle.std.proofs.Common.{◌≡◌, ℕ, ◌<◌, ◌≤◌, Bool, false, not, ◌&&◌, eqb, ltb, List, length, get_or, set, replicate, sum_by, sym, ap, ◌∙◌, subst, inl, inr, arith}
 use lib.Bits.{and_comm}
 use Rattle.std.proofs.lemmas.List.{length-take-le, length-replicate, get_or_past, get_or-replicate, get_or-set_same, get_or-set_other}
 use Rattle.std.proofs.lemmas.Bool.{cases_eq, cases_lt}
-use Rattle.sets.specs.Sets.{has, meeting, members, gathered}
+use Rattle.sets.specs.Sets.{has, gathered}
 use Rattle.sets.proofs.Sets.{has_none, same_sets, and_false}
 use Rattle.sets.proofs.Members.{has_gathered, members_gathered}
 use Rattle.sheet.specs.declared.operators.Figure.{Figure}

@@ -1,4 +1,4 @@
-use Rattle.std.proofs.Common.{◌≡◌, ◌+◌, ◌*◌, ◌%◌, ◌^◌, ◌<◌, ◌≤◌, get_or, sym, ◌∙◌, arith, pow_mono, rules}
+use Rattle.std.proofs.Common.{◌+◌, ◌*◌, ◌%◌, ◌^◌, ◌<◌, ◌≤◌, get_or, sym, ◌∙◌, arith, pow_mono, rules}
 use Rattle.std.proofs.lemmas.Nat.{one_shl}
 use Rattle.ideals.proofs.Fronts.{so_far_none, so_far_read, so_far_push, so_far_keep, so_far_full, so_far_all}
 use Rattle.ideals.proofs.append_above.Goals as goal

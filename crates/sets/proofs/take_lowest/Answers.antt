@@ -1,4 +1,4 @@
-use Rattle.std.proofs.Common.{◌≡◌, ◌<◌, refl, ap, ◌∙◌, arith, rules}
+use Rattle.std.proofs.Common.{◌<◌, refl, ap, ◌∙◌, rules}
 use Rattle.sets.specs.Sets.{members}
 use Rattle.sets.proofs.Members.{members_more, members_none}
 use Rattle.sets.proofs.take_lowest.Goals as goal

@@ -1,5 +1,4 @@
 use Rattle.cells.specs.Cells.{Turns, cleared}
-use Rattle.std.proofs.Common.{◌≡◌}
 use Rattle.cells.proofs.cells.clear.Given as goal
 
 abbrev pub invariant-loop-c : goal.invariant-loop-c

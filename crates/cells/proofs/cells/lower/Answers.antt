@@ -1,7 +1,7 @@
-use Rattle.std.proofs.Common.{◌≡◌, Bool, true, false, not, ◌||◌, ◌==◌, get_or, sym, ap, ◌∙◌}
+use Rattle.std.proofs.Common.{not, ◌||◌, ◌==◌, get_or, sym, ap, ◌∙◌}
 use Rattle.std.proofs.lemmas.List.{get_or_read}
 use Rattle.std.proofs.lemmas.Bool.{cond-true, cond-false}
-use Rattle.cells.specs.Cells.{cell_at, no_choice, lowered}
+use Rattle.cells.specs.Cells.{no_choice, lowered}
 use Rattle.cells.proofs.Tables.{put, unturned}
 use Rattle.cells.proofs.cells.lower.Goals as goal
 

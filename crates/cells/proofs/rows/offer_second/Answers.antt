@@ -1,7 +1,6 @@
 use Rattle.std.proofs.Common.{◌≡◌, ◌+◌, ap, arith}
 use Rattle.device.specs.Views.{load_of, answered}
 use Rattle.cells.specs.Cells.{cell_at}
-use Rattle.cells.specs.Rows.{second, row}
 use Rattle.cells.proofs.RowSteps.{onto_no_choice, onto_more, line_le}
 use Rattle.cells.proofs.rows.offer_second.Goals as goal
 

@@ -1,10 +1,9 @@
-use Rattle.std.proofs.Common.{◌≡◌, ℕ, ◌+◌, ◌*◌, ◌<◌, List, sym, refl, ap, ◌∙◌, arith}
+use Rattle.std.proofs.Common.{◌≡◌, ◌+◌, sym, refl, ap, ◌∙◌, arith}
 use Rattle.std.proofs.lemmas.Result.{err_from_is_err_and}
 use Rattle.sheet.specs.Nets.{size, empty}
-use Rattle.sheet.specs.Changes.{changed, added}
 use Rattle.sheet.specs.Views.{net}
-use Rattle.sheet_layout.specs.Bodies.{row_refusal, row_at, rows_in, with_rows, first_wrong}
-use Rattle.sheet_layout.proofs.Edges.{with_rows_size, with_rows_more}
+use Rattle.sheet_layout.specs.Bodies.{row_refusal, rows_in, with_rows, first_wrong}
+use Rattle.sheet_layout.proofs.Edges.{with_rows_size}
 use Rattle.sheet_file.proofs.Loading.{first_wrong_at, first_wrong_step, rows_step}
 use Rattle.sheet_file.proofs.bodies.add_rows.Goals as goal
 

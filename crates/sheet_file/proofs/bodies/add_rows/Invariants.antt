@@ -1,4 +1,4 @@
-use Rattle.std.proofs.Common.{◌≡◌, ◌*◌, []}
+use Rattle.std.proofs.Common.{◌≡◌, []}
 use Rattle.sheet.specs.Nets.{empty}
 use Rattle.sheet.specs.Views.{net}
 use Rattle.sheet_layout.specs.Bodies.{first_wrong, row_refusal, with_rows}

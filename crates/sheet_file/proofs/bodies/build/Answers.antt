@@ -1,4 +1,3 @@
-use Rattle.std.proofs.Common.{◌≡◌}
 use Rattle.std.proofs.lemmas.Result.{err_from_is_err_and}
 use Rattle.sheet.specs.Views.{net}
 use Rattle.sheet_file.proofs.Building.{rows_bare, edges_told, counts_told, net_built}

@@ -1,7 +1,7 @@
-use Rattle.std.proofs.Common.{◌≡◌, ℕ, List, [], ◌∷◌, ap, ◌∙◌}
+use Rattle.std.proofs.Common.{ℕ, [], ◌∷◌, ap, ◌∙◌}
 use Rattle.sheet.specs.Changes.{join_refusal}
 use Rattle.sheet.specs.Views.{net}
-use Rattle.sheet_layout.specs.Bodies.{from, to}
+use Rattle.sheet_layout.specs.Bodies.{from}
 use Rattle.sheet_file.proofs.Loading.{edge_told}
 use Rattle.sheet_file.proofs.bodies.join_edge.Goals as goal
 

@@ -1,4 +1,4 @@
-use Rattle.std.proofs.Common.{◌≡◌, ℕ, List, length, sym, ap, ◌∙◌, subst, arith}
+use Rattle.std.proofs.Common.{length, ap, ◌∙◌, arith}
 use Rattle.std.proofs.lemmas.Result.{err_from_is_err_and}
 use Rattle.sheet_file.proofs.Building.{body_sizes, contents_told, reads_refused, reads_bodies}
 use Rattle.sheet_file.proofs.loads.load.Goals as goal

@@ -1,4 +1,4 @@
-use Rattle.std.proofs.Common.{◌≡◌, ◌∙◌}
+use Rattle.std.proofs.Common.{◌∙◌}
 use Rattle.sheet.specs.Views.{net}
 use Rattle.split.proofs.Backs.{back_is}
 use Rattle.split.proofs.judges.is_back.Goals as goal

@@ -1,4 +1,4 @@
-use Rattle.std.proofs.Common.{◌^◌, ◌<◌, rules}
+use Rattle.std.proofs.Common.{◌<◌, rules}
 use Rattle.stage_memo.proofs.Walks.{highest}
 use Rattle.stage_memo.proofs.steps.take_highest.Goals as goal
 

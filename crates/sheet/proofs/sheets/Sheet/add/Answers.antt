@@ -1,4 +1,4 @@
-use Rattle.std.proofs.Common.{◌≡◌, ◌<◌, ◌≤◌, length, sym, refl, ◌∙◌, arith, rules}
+use Rattle.std.proofs.Common.{◌≡◌, ◌<◌, length, sym, arith, rules}
 use Rattle.std.proofs.lemmas.List.{length-take-le}
 use Rattle.sheet.specs.Nets.{size}
 use Rattle.sheet.specs.Views.{net}

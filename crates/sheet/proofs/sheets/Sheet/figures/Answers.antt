@@ -1,11 +1,11 @@
-use Rattle.std.proofs.Common.{◌≡◌, ℕ, ◌<◌, ◌≤◌, Bool, filter, ap, arith}
+use Rattle.std.proofs.Common.{◌≡◌, ℕ, ◌<◌, ◌≤◌, Bool, filter, arith}
 use Rattle.std.specs.List.{AllByRecursion as All}
 use Rattle.std.proofs.lemmas.List.{length-take-le}
 use Rattle.sets.specs.Sets.{has, both, members, full, upto, gathered}
 use Rattle.sheet.specs.declared.sheets.Sheet.{Sheet}
 use Rattle.sheet.specs.declared.operators.Figure.TheVariants.{Acc, Cpu, Size, Link}
 use Rattle.sheet.specs.Nets.{size}
-use Rattle.sheet.specs.Figures.{Sums, feeds, leaves}
+use Rattle.sheet.specs.Figures.{feeds, leaves}
 use Rattle.sheet.specs.Views.{net}
 use Rattle.sheet.proofs.Charges.{members_inside, members_tested, kept_below, charged_is, same_sums, charging}
 use Rattle.sheet.proofs.sheets.Sheet.figures.Goals as goal

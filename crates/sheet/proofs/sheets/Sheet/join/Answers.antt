@@ -1,8 +1,8 @@
-use Rattle.std.proofs.Common.{◌≡◌, ℕ, ◌<◌, ◌≤◌, Bool, cond, length, get_or, sym, refl, ap, ◌∙◌, arith, length-set, rules}
+use Rattle.std.proofs.Common.{◌≡◌, ℕ, Bool, cond, get_or, sym, refl, ap, ◌∙◌, arith, length-set}
 use Rattle.std.proofs.lemmas.List.{length-take-le, get_or-take}
 use Rattle.std.proofs.lemmas.Bool.{lt-ltb}
 use Rattle.sets.specs.Sets.{has, including}
-use Rattle.sheet.specs.Nets.{size, after}
+use Rattle.sheet.specs.Nets.{size}
 use Rattle.sheet.specs.Views.{net}
 use Rattle.sheet.proofs.Changes.{join_there, join_granted, upward_set, joined_set}
 use Rattle.sheet.proofs.sheets.Sheet.join.Goals as goal

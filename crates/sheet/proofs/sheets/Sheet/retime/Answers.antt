@@ -1,8 +1,8 @@
-use Rattle.std.proofs.Common.{◌≡◌, ℕ, ◌<◌, ◌≤◌, List, length, sym, refl, ap, ◌∙◌, arith, length-set}
+use Rattle.std.proofs.Common.{◌≡◌, List, sym, ap, ◌∙◌, arith, length-set}
 use lib.Seq.{take-set-lt}
 use Rattle.std.proofs.lemmas.List.{length-take-le}
 use Rattle.sheet.specs.declared.operators.Operator.{Operator}
-use Rattle.sheet.specs.Nets.{Net, size}
+use Rattle.sheet.specs.Nets.{size}
 use Rattle.sheet.specs.Views.{net}
 use Rattle.sheet.proofs.Changes.{retime_granted, modest_set}
 use Rattle.sheet.proofs.sheets.Sheet.retime.Goals as goal

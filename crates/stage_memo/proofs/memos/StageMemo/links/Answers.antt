@@ -1,7 +1,5 @@
-use Rattle.std.proofs.Common.{◌≡◌, ℕ, ◌+◌, ◌<◌, ◌∷◌, get_or, sum_by, sym, ap, ◌∙◌, subst, arith}
-use Rattle.std.specs.List.{AllByRecursion as All}
-use Rattle.sets.specs.Sets.{In, members}
-use Rattle.sets.proofs.Members.{members_all}
+use Rattle.std.proofs.Common.{◌≡◌, ℕ, ◌+◌, get_or, sum_by, ap, ◌∙◌, arith}
+use Rattle.sets.specs.Sets.{members}
 use Rattle.sheet.specs.declared.operators.Figure.TheVariants.{Link}
 use Rattle.sheet.specs.Nets.{row}
 use Rattle.sheet.proofs.Charges.{walk_more, walk_all, sum_le}

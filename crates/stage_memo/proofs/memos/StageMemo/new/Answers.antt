@@ -1,4 +1,4 @@
-use Rattle.std.proofs.Common.{◌≡◌, ◌<◌, refl, rules}
+use Rattle.std.proofs.Common.{◌≡◌, refl, rules}
 use Rattle.sheet.specs.Views.{net}
 use Rattle.stage_memo.proofs.Whole.{nothing_known}
 use Rattle.stage_memo.proofs.memos.StageMemo.new.Goals as goal

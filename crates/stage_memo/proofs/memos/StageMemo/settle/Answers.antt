@@ -1,4 +1,4 @@
-use Rattle.std.proofs.Common.{◌≡◌, ℕ, ◌^◌, ◌<◌, sym, refl, ◌∙◌, subst, arith, length-set, rules}
+use Rattle.std.proofs.Common.{ℕ, ◌^◌, ◌<◌, sym, refl, ◌∙◌, subst, arith, length-set, rules}
 use Rattle.sheet.specs.Nets.{Net}
 use Rattle.stage_memo.specs.Entries.{Right}
 use Rattle.stage_memo.specs.Views.{memo_net}

@@ -1,4 +1,4 @@
-use Rattle.std.proofs.Common.{◌≡◌, ℕ, ◌+◌, ◌-◌, sym, subst, arith}
+use Rattle.std.proofs.Common.{ℕ, ◌+◌, ◌-◌, sym, subst, arith}
 use Rattle.stage_memo.specs.Entries.{Right}
 use Rattle.stage_memo.specs.Views.{memo_net}
 use Rattle.stage_memo.proofs.Added.{at, acc_added, cpu_added, size_added, feeding_added, incoming_added, outgoing_added, included}
