@@ -9,7 +9,7 @@ number_some : (k : KindNumber) → number k ≡ 0 → ⊥
 number_some one z = omega arith
 number_some two z = omega arith
 
-module _ {R : Type 0} (e : Setting R) (ground : (a b : ℕ) → e.ground a b ≡ true) (a b : ℕ) where
+module _ {R : Type 0} (e : Setting R) (bottom : (a b : ℕ) → e.bottom a b ≡ true) (a b : ℕ) where
   rating_none : (o : Option (Candidate R)) → (chosen o).kind ≡ 0 → None ≡ rating_of o
   rating_none None h = refl
   rating_none (Some c) h = absurd (number_some c.kind h)
@@ -22,11 +22,11 @@ module _ {R : Type 0} (e : Setting R) (ground : (a b : ℕ) → e.ground a b ≡
   best_none zero ch q h z = absurd (h refl)
   best_none (suc i) ch q h z = rating_none (pick e a b (suc i)) (rw q at z) ∙ sym (best_via e a b (suc i))
 
-  best_ground : (i : ℕ) → i ≡ 0 → best e a b i ≡ Some e.rules.start
-  best_ground i z = rw z (best_via e a b 0 ∙ ap (λ t. cond t (Some e.rules.start) None) (ground a b))
+  best_bottom : (i : ℕ) → i ≡ 0 → best e a b i ≡ Some e.rules.start
+  best_bottom i z = rw z (best_via e a b 0 ∙ ap (λ t. cond t (Some e.rules.start) None) (bottom a b))
 
   pub best_first : (i : ℕ) (r : R) → r ≡ or_start e.rules (best e a b i) → i ≡ 0 → Some r ≡ best e a b i
-  best_first i r q z = ap Some (q ∙ ap (or_start e.rules) (best_ground i z)) ∙ sym (best_ground i z)
+  best_first i r q z = ap Some (q ∙ ap (or_start e.rules) (best_bottom i z)) ∙ sym (best_bottom i z)
 
   pub best_some : (i : ℕ) (r : R) (ch : Choice) → r ≡ or_start e.rules (best e a b i) → ch ≡ chosen (pick e a b i) → (i ≡ 0 → ⊥) → (ch.kind ≡ 0 → ⊥) → Some r ≡ best e a b i
   best_some zero r ch q p h z = absurd (h refl)

@@ -1,6 +1,6 @@
 -- Which masks a list holds, and ascending lists.
 use Rattle.std.proofs.Common.{◌≡◌, ℕ, zero, suc, ◌+◌, ◌<◌, ◌≤◌, Bool, true, false, cond, List, [], ◌∷◌, ◌++◌, map, length, get_or, filter, sym, refl, ap, ◌∙◌, arith}
-use Rattle.std.specs.List.{AllByRecursion as All}
+use Rattle.std.specs.List.{AllByRecursion}
 use Rattle.std.proofs.ByRecursion.{All-append, All-weaker, All-get_or, All-map, all_kept_by}
 use Rattle.std.proofs.lemmas.List.{length-append, get_or_append_left}
 
@@ -33,7 +33,7 @@ module _ (p : ℕ → Bool) where
   listed_kept m (x ∷ xs) q (zero, h, e) = here m x (filter p xs) (p x) refl q e
   listed_kept m (x ∷ xs) q (suc i, h, e) = there m x (filter p xs) (p x) (listed_kept m xs q (i, omega arith, e))
 
-pub all_both : (P Q : ℕ → Type 0) (xs : List ℕ) → All P xs → All Q xs → All (λ x. P x × Q x) xs
+pub all_both : (P Q : ℕ → Type 0) (xs : List ℕ) → AllByRecursion P xs → AllByRecursion Q xs → AllByRecursion (λ x. P x × Q x) xs
 all_both P Q [] a b = tt
 all_both P Q (x ∷ xs) a b = ((a.0, b.0), all_both P Q xs a.1 b.1)
 
@@ -41,9 +41,9 @@ all_both P Q (x ∷ xs) a b = ((a.0, b.0), all_both P Q xs a.1 b.1)
 
 abbrev pub Ascends : List ℕ → Type 0
 Ascends [] = Unit {0}
-Ascends (x ∷ xs) = All (λ y. x < y) xs × Ascends xs
+Ascends (x ∷ xs) = AllByRecursion (λ y. x < y) xs × Ascends xs
 
-pub ascends_append : (c : ℕ) (xs ys : List ℕ) → Ascends xs → Ascends ys → All (λ x. x < c) xs → All (λ y. c ≤ y) ys → Ascends (xs ++ ys)
+pub ascends_append : (c : ℕ) (xs ys : List ℕ) → Ascends xs → Ascends ys → AllByRecursion (λ x. x < c) xs → AllByRecursion (λ y. c ≤ y) ys → Ascends (xs ++ ys)
 ascends_append c [] ys a b low high = b
 ascends_append c (x ∷ xs) ys a b low high =
     let below : x < c = low.0 in
@@ -54,7 +54,7 @@ ascends_map c [] a = tt
 ascends_map c (x ∷ xs) a =
     (All-map (λ y. x + c < y) (λ (m : ℕ). m + c) xs (All-weaker (λ y. x < y) (λ y. x + c < y + c) (λ y h. omega (arith, h)) xs a.0), ascends_map c xs a.1)
 
-kept_ascends : (x : ℕ) (xs : List ℕ) (b : Bool) → All (λ y. x < y) xs → Ascends xs → Ascends (cond b (x ∷ xs) xs)
+kept_ascends : (x : ℕ) (xs : List ℕ) (b : Bool) → AllByRecursion (λ y. x < y) xs → Ascends xs → Ascends (cond b (x ∷ xs) xs)
 kept_ascends x xs true h a = (h, a)
 kept_ascends x xs false h a = a
 

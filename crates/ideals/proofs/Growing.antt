@@ -1,6 +1,6 @@
 -- The list of ideals as it grows, operator by operator.
 use Rattle.std.proofs.Common.{◌≡◌, ℕ, zero, suc, ◌+◌, ◌-◌, ◌^◌, ◌<◌, ◌≤◌, List, [], ◌∷◌, ◌++◌, length, get_or, take, drop, set, Some, None, filter, sym, refl, ap, ◌∙◌, subst, pow-suc, arith}
-use Rattle.std.specs.List.{AllByRecursion as All}
+use Rattle.std.specs.List.{AllByRecursion}
 use Rattle.std.proofs.ByRecursion.{All-append, All-weaker, All-get_or, All-map, all_kept_by}
 use Rattle.std.proofs.lemmas.List.{append-nil, append_assoc, length-append, length-take, length-take-le, take_at, take_all, take-append-le, drop-set-lt, get_or_append_left}
 use Rattle.sets.specs.Sets.{inside}
@@ -16,7 +16,7 @@ module _ (p : ℕ → ℕ) where
   unfolding grown
   grown_more v = let next : v + 1 ≡ suc v = omega arith in ap (grown p) next
 
-  pub grown_small : (v : ℕ) → All (λ x. x < 2 ^ v) (grown p v)
+  pub grown_small : (v : ℕ) → AllByRecursion (λ x. x < 2 ^ v) (grown p v)
   unfolding grown
   grown_small zero = (omega arith, tt)
   grown_small (suc v) =

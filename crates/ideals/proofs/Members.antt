@@ -1,6 +1,6 @@
 -- The list holds a set exactly if it is an ideal, and ascends.
 use Rattle.std.proofs.Common.{◌≡◌, ℕ, zero, suc, ◌+◌, ◌-◌, ◌^◌, ◌<◌, ◌≤◌, Bool, true, false, ◌&&◌, ◌||◌, eqb, ltb, ◌⊎◌, filter, sym, refl, ap, ◌∙◌, subst, inl, inr, pow-suc, arith}
-use Rattle.std.specs.List.{AllByRecursion as All}
+use Rattle.std.specs.List.{AllByRecursion}
 use Rattle.std.proofs.ByRecursion.{All-append, All-weaker, All-map, all_kept_by, kept_by_passes}
 use Rattle.std.proofs.lemmas.Bool.{both_ways, cases_lt, cases_Bool, eqb-true, eq-eqb, lt-ltb, ltb-true}
 use Rattle.sets.specs.Sets.{has, In, inside, full, gathered}
@@ -63,7 +63,7 @@ module _ (p : ℕ → ℕ) (up : (u v : ℕ) → In u (p v) → u < v) where
   wider : (v m : ℕ) → Closed p v m → Closed p (suc v) m
   wider v m d = record { only = λ u h. omega (arith, d.only u h); closed = d.closed }
 
-  pub grown_closed : (v : ℕ) → All (Closed p v) (grown p v)
+  pub grown_closed : (v : ℕ) → AllByRecursion (Closed p v) (grown p v)
   unfolding grown
   grown_closed zero = (
     record {

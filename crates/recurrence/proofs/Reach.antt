@@ -36,7 +36,7 @@ higher ms V listed j i h less = elim (cases_lt j i) [
 
 module _ {R : Type 0} (e : Setting R) (V : ℕ → Type 0) where
   pub data Reached : List Stage → ℕ → ℕ → ℕ → R → Type 0 where
-    started : (a b : ℕ) → e.ground a b ≡ true → Reached [] a b 0 e.rules.start
+    started : (a b : ℕ) → e.bottom a b ≡ true → Reached [] a b 0 e.rules.start
     more : {ss : List Stage} {a b p a' b' : ℕ} {r : R} (k : KindNumber) (m : ℕ) (x : PlainLoad) → Reached ss a b p r → Spends k a b a' b' → 0 < m → Apart m p → V (either p m) → e.ask k a' b' m ≡ Some x
         → Reached (ss ++ (record { mask = m; kind = number k } ∷ [])) a' b' (either p m) (e.rules.joined r x)
 
@@ -54,9 +54,9 @@ module _ {R : Type 0} (e : Setting R) (V : ℕ → Type 0) (listed : Listed e.id
         )
 
     pub bound : {ss : List Stage} {a b p : ℕ} {r : R} → Reached e V ss a b p r → (i : ℕ) × (t : R) × (i < length e.ideals) × (ideal e i ≡ p) × (best e a b i ≡ Some t) × (e.rules.at_most t r ≡ true)
-    bound (started a b ground) =
+    bound (started a b bottom) =
         let start = e.rules.start in
-        (0, start, listed.some, listed.first, best_via e a b 0 ∙ cond-true (e.ground a b) (Some start) None ground, at_most_self e.rules laws.ordered start)
+        (0, start, listed.some, listed.first, best_via e a b 0 ∙ cond-true (e.bottom a b) (Some start) None bottom, at_most_self e.rules laws.ordered start)
     bound (more {a = a} {b = b} {p = p} {a' = a'} {b' = b'} {r = r} k m x way spends some apart valid asked) =
         let before = bound way in
         let j = before.0 in
@@ -79,7 +79,7 @@ module _ {R : Type 0} (e : Setting R) (V : ℕ → Type 0) (listed : Listed e.id
 
   way_none : (a b : ℕ) (r : R) → best e a b 0 ≡ Some r → Reached e V (stages e a b 0) a b (ideal e 0) r
   way_none a b r h =
-      let t = cond_some (e.ground a b) (Some e.rules.start) r (sym (best_via e a b 0) ∙ h) in
+      let t = cond_some (e.bottom a b) (Some e.rules.start) r (sym (best_via e a b 0) ∙ h) in
       subst (λ (ss : List Stage). Reached e V ss a b (ideal e 0) r) (sym (stages_none e a b 0 refl))
       (subst (λ (p : ℕ). Reached e V [] a b p r) (sym listed.first)
       (subst (λ (z : R). Reached e V [] a b 0 z) (some_same t.1) (started a b t.0)))

@@ -126,7 +126,7 @@ module _ {R : Type 0} (n : Net) (e : Kinds) (s : Rules R) where
   still_few second f g h l = (omega arith, omega arith)
 
   pass : {ss : List Stage} {a b p : ℕ} {r : R} → Way ss a b p r → a ≤ n.k → b ≤ n.l → Passed ss a b p r
-  pass (started a b ground) la lb = record {
+  pass (started a b bottom) la lb = record {
     walk = nowhere;
     placed = refl;
     ideal = record { only = λ v h. absurd (both_ways (has 0 v) (has_none v) h); closed = λ u v edge h. absurd (both_ways (has 0 v) (has_none v) h) };

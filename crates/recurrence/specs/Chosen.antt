@@ -33,4 +33,4 @@ module _ {R : Type 0} (e : Setting R) where
     pub missing : (d : Candidate R) → pick e a b (suc i) ≡ None → Offered a b (suc i) d → ⊥
 
 abbrev pub FollowsOn : {R : Type 0} → Rules R → Type 0
-FollowsOn s = (ideals : List ℕ) (ground : ℕ → ℕ → Bool) (ask : KindNumber → ℕ → ℕ → ℕ → Option PlainLoad) (a b i : ℕ) → Follows (record { ideals = ideals; ground = ground; ask = ask; rules = s }) a b i
+FollowsOn s = (ideals : List ℕ) (bottom : ℕ → ℕ → Bool) (ask : KindNumber → ℕ → ℕ → ℕ → Option PlainLoad) (a b i : ℕ) → Follows (record { ideals = ideals; bottom = bottom; ask = ask; rules = s }) a b i

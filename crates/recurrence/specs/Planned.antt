@@ -14,7 +14,7 @@ use Rattle.recurrence.specs.Stages.{stages}
 
 -- over any list of ideals
 abbrev pub setting_over : {R : Type 0} → List ℕ → Net → Kinds → Rules R → Setting R
-setting_over ms n e s = record { ideals = ms; ground = λ a b. true; ask = λ k a b m. asked n e (number k) m; rules = s }
+setting_over ms n e s = record { ideals = ms; bottom = λ a b. true; ask = λ k a b m. asked n e (number k) m; rules = s }
 
 abbrev pub setting : {R : Type 0} → Net → Kinds → Rules R → Setting R
 setting n e s = setting_over (ideals n) n e s

@@ -30,7 +30,7 @@ pub record Candidate (R : Type 0) : Type 0 where
 
 pub record Setting (R : Type 0) : Type 0 where
   pub ideals : List ℕ
-  pub ground : ℕ → ℕ → Bool
+  pub bottom : ℕ → ℕ → Bool
   pub ask : KindNumber → ℕ → ℕ → ℕ → Option PlainLoad
   pub rules : Rules R
 
@@ -67,7 +67,7 @@ module _ {R : Type 0} (e : Setting R) where
   least p q a b i = among e.rules p q (cut one a b i) (cut two a b i) i
 
   abbrev pub via : (ℕ → Option R) → (ℕ → Option R) → ℕ → ℕ → ℕ → Option R
-  via p q a b zero = cond (e.ground a b) (Some e.rules.start) None
+  via p q a b zero = cond (e.bottom a b) (Some e.rules.start) None
   via p q a b (suc i) = rating_of (least p q a b (suc i))
 
   abbrev pub best : ℕ → ℕ → ℕ → Option R

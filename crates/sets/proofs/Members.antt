@@ -2,7 +2,7 @@
 use Rattle.std.proofs.Common.{◌≡◌, ℕ, zero, suc, ◌+◌, ◌-◌, ◌*◌, ◌/◌, ◌%◌, ◌^◌, ◌<◌, ◌≤◌, Bool, true, false, cond, not, ◌&&◌, ◌||◌, eqb, ltb, List, [], ◌∷◌, ◌++◌, length, sum_by, filter, sym, refl, ap, ◌∙◌, subst, inl, inr, append-nil, suc-mul, pow-suc, arith, length-append}
 use lib.Bits.{bit_and, bit_or, and_step, and_self, or_shifted_r}
 use lib.Count.{ones, ones_step, ones-le, count_trailing_zeros}
-use Rattle.std.specs.List.{AllByRecursion as All}
+use Rattle.std.specs.List.{AllByRecursion}
 use Rattle.std.proofs.lemmas.List.Elements.{filter-append}
 use Rattle.std.proofs.ByRecursion.{All-append, All-weaker}
 use Rattle.std.proofs.lemmas.List.Sums.{sum_by_push}
@@ -62,18 +62,18 @@ kept_first p q t (suc n) h first fails rest = elim (cases_eq n t) [
 ]
 
 -- what a test keeps passes it
-pub kept_all : (p : ℕ → Bool) (n : ℕ) → All (λ v. (v < n) × (p v ≡ true)) (filter p (upto n))
+pub kept_all : (p : ℕ → Bool) (n : ℕ) → AllByRecursion (λ v. (v < n) × (p v ≡ true)) (filter p (upto n))
 unfolding upto
 kept_all p zero = tt
 kept_all p (suc n) =
-    let before : All (λ v. (v < suc n) × (p v ≡ true)) (filter p (upto n)) = All-weaker (λ v. (v < n) × (p v ≡ true)) (λ v. (v < suc n) × (p v ≡ true)) (λ v h. (omega (arith, h.0), h.1)) (filter p (upto n)) (kept_all p n) in
-    subst (All (λ v. (v < suc n) × (p v ≡ true))) (sym (kept_more p n)) (All-append (λ v. (v < suc n) × (p v ≡ true)) (filter p (upto n)) (cond (p n) (n ∷ []) []) before (here (p n) refl))
+    let before : AllByRecursion (λ v. (v < suc n) × (p v ≡ true)) (filter p (upto n)) = All-weaker (λ v. (v < n) × (p v ≡ true)) (λ v. (v < suc n) × (p v ≡ true)) (λ v h. (omega (arith, h.0), h.1)) (filter p (upto n)) (kept_all p n) in
+    subst (AllByRecursion (λ v. (v < suc n) × (p v ≡ true))) (sym (kept_more p n)) (All-append (λ v. (v < suc n) × (p v ≡ true)) (filter p (upto n)) (cond (p n) (n ∷ []) []) before (here (p n) refl))
   where
-    here : (b : Bool) → p n ≡ b → All (λ v. (v < suc n) × (p v ≡ true)) (cond b (n ∷ []) [])
+    here : (b : Bool) → p n ≡ b → AllByRecursion (λ v. (v < suc n) × (p v ≡ true)) (cond b (n ∷ []) [])
     here true e = ((omega arith, e), tt)
     here false e = tt
 
-pub members_all : (m : ℕ) → All (λ v. (v < 64) × In v m) (members m)
+pub members_all : (m : ℕ) → AllByRecursion (λ v. (v < 64) × In v m) (members m)
 members_all m = kept_all (has m) 64
 
 pub length_kept : (p : ℕ → Bool) (n : ℕ) → length (filter p (upto n)) ≤ n

@@ -1,6 +1,6 @@
 -- Sums over sets of operators, and how large they can be.
 use Rattle.std.proofs.Common.{◌≡◌, ℕ, ◌+◌, ◌<◌, ◌≤◌, Bool, true, false, not, ◌&&◌, ltb, List, [], ◌∷◌, length, sum_by, filter, sym, refl, ap, ◌∙◌, subst, inl, inr, arith}
-use Rattle.std.specs.List.{AllByRecursion as All}
+use Rattle.std.specs.List.{AllByRecursion}
 use Rattle.std.proofs.lemmas.List.Sums.{sum_by-cons}
 use Rattle.std.proofs.ByRecursion.{sum_by_le, All-weaker}
 use Rattle.std.proofs.lemmas.List.{length-take-le, get_or_past}
@@ -23,7 +23,7 @@ figure_le Cpu o h = h.1
 figure_le Size o h = h.2
 figure_le Link o h = h.3
 
-all_of : {X : Type 0} (P : X → Type 0) → ((x : X) → P x) → (xs : List X) → All P xs
+all_of : {X : Type 0} (P : X → Type 0) → ((x : X) → P x) → (xs : List X) → AllByRecursion P xs
 all_of P each [] = tt
 all_of P each (x ∷ xs) = (each x, all_of P each xs)
 
@@ -60,9 +60,9 @@ members_inside m all set n few is common =
 pub members_tested : (p : ℕ → Bool) (set n : ℕ) → n ≤ 64 → set ≡ gathered p n → members set ≡ filter p (upto n)
 members_tested p set n few is = ap members is ∙ members_gathered p n few
 
-pub kept_below : (p : ℕ → Bool) (set n count : ℕ) → n ≡ count → members set ≡ filter p (upto n) → All (λ v. v < count) (members set)
+pub kept_below : (p : ℕ → Bool) (set n count : ℕ) → n ≡ count → members set ≡ filter p (upto n) → AllByRecursion (λ v. v < count) (members set)
 kept_below p set n count same is =
-    subst (All (λ v. v < count)) (sym is) (All-weaker (λ v. (v < n) × (p v ≡ true)) (λ v. v < count) (λ v h. omega (arith, h.0)) (filter p (upto n)) (kept_all p n))
+    subst (AllByRecursion (λ v. v < count)) (sym is) (All-weaker (λ v. (v < n) × (p v ≡ true)) (λ v. v < count) (λ v h. omega (arith, h.0)) (filter p (upto n)) (kept_all p n))
 
 pub charged_is : (n : Net) (w : Figure) (p : ℕ → Bool) (set r : ℕ) → members set ≡ filter p (upto (size n)) → r ≡ sum_by (λ v. figure_of w (row n v)) (members set) → r ≡ charged n w p
 charged_is n w p set r is sum = sum ∙ ap (sum_by (λ v. figure_of w (row n v))) is

@@ -1,6 +1,6 @@
 // The figures of a stage.
 ghost use Rattle.std.specs.Prelude.{◌≡◌, ◌<◌, ◌≤◌, sum_by};
-ghost use Rattle.std.specs.List.{AllByRecursion as All};
+ghost use Rattle.std.specs.List.{AllByRecursion};
 ghost use Rattle.sets.specs.Sets.{gathered, members};
 ghost use Rattle.sheet.specs.Rules.{most_sum};
 ghost use Rattle.sheet.specs.Nets.{size, row};
@@ -26,7 +26,7 @@ impl Operator {
 impl Sheet {
     // The sum of one figure over a set of operators.
     fn sum(&self, set: u64, which: Figure) -> u32
-        requires { All (λ v. v < self.now.operators) (members set) }
+        requires { AllByRecursion (λ v. v < self.now.operators) (members set) }
         ensures value { result ≡ sum_by (λ v. figure_of which (row (net self.now) v)) (members set) }
         ensures bound { result ≤ most_sum }
     {

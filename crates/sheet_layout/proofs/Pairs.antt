@@ -5,7 +5,7 @@
 --   two e             the two bytes of an edge
 --   room u            how many edges the operators below u can have, of 64
 use Rattle.std.proofs.Common.{◌≡◌, ℕ, zero, suc, ◌+◌, ◌-◌, ◌*◌, ◌<◌, ◌≤◌, false, List, [], ◌∷◌, ◌++◌, map, length, get_or, sym, refl, ap, ◌∙◌, subst, inl, inr, arith}
-use Rattle.std.specs.List.{flat_map, ContainsAt as Has, AllByRecursion as All}
+use Rattle.std.specs.List.{flat_map, ContainsAt as Has, AllByRecursion}
 use Rattle.std.proofs.ByRecursion.{All-weaker, All-map, All-get_or}
 use Rattle.std.proofs.lemmas.List.{length-append, length-map, get_or_past}
 use Rattle.std.proofs.lemmas.Bool.{cases_lt, cases_Bool, both_ways}
@@ -87,15 +87,15 @@ abbrev pub BeforePair : ℕ × ℕ → ℕ × ℕ → Type 0
 BeforePair d e = Before d.0 d.1 e.0 e.1
 
 -- what holds of each edge from u, and of each from the operators below j
-all_from : (n : Net) (P : ℕ × ℕ → Type 0) (u : ℕ) → ((v : ℕ) → Edge n u v → P (u, v)) → All P (edges_from n u)
+all_from : (n : Net) (P : ℕ × ℕ → Type 0) (u : ℕ) → ((v : ℕ) → Edge n u v → P (u, v)) → AllByRecursion P (edges_from n u)
 all_from n P u h =
     All-map P (λ v. (u, v)) (members (after n u))
     (All-weaker (λ v. (v < 64) × In v (after n u)) (λ v. P (u, v)) (λ v k. h v k.1) (members (after n u)) (members_all (after n u)))
 
-all_below : (n : Net) (P : ℕ × ℕ → Type 0) (j : ℕ) → ((u v : ℕ) → u < j → Edge n u v → P (u, v)) → All P (edges_below n j)
+all_below : (n : Net) (P : ℕ × ℕ → Type 0) (j : ℕ) → ((u v : ℕ) → u < j → Edge n u v → P (u, v)) → AllByRecursion P (edges_below n j)
 all_below n P j h =
     all_joined P (edges_from n) (upto j)
-    (All-weaker (λ u. u < j) (λ u. All P (edges_from n u)) (λ u l. all_from n P u (λ v e. h u v l e)) (upto j) (all_upto j))
+    (All-weaker (λ u. u < j) (λ u. AllByRecursion P (edges_from n u)) (λ u l. all_from n P u (λ v e. h u v l e)) (upto j) (all_upto j))
 
 rising_from : (n : Net) (u : ℕ) → Rising BeforePair (edges_from n u)
 rising_from n u =
@@ -105,8 +105,8 @@ rising_from n u =
 rising_below : (n : Net) (j : ℕ) → Rising BeforePair (edges_below n j)
 rising_below n zero = rw (joined_none (edges_from n)) tt
 rising_below n (suc j) =
-    let later : (e : ℕ × ℕ) → e.0 < j → All (BeforePair e) (edges_from n j) = λ e h. all_from n (BeforePair e) j (λ v k. inl h) in
-    let split : All (λ (e : ℕ × ℕ). All (BeforePair e) (edges_from n j)) (edges_below n j) = all_below n (λ (e : ℕ × ℕ). All (BeforePair e) (edges_from n j)) j (λ u v l k. later (u, v) l) in
+    let later : (e : ℕ × ℕ) → e.0 < j → AllByRecursion (BeforePair e) (edges_from n j) = λ e h. all_from n (BeforePair e) j (λ v k. inl h) in
+    let split : AllByRecursion (λ (e : ℕ × ℕ). AllByRecursion (BeforePair e) (edges_from n j)) (edges_below n j) = all_below n (λ (e : ℕ × ℕ). AllByRecursion (BeforePair e) (edges_from n j)) j (λ u v l k. later (u, v) l) in
     subst (Rising BeforePair) (sym (joined_upto (edges_from n) j))
     (rising_append BeforePair (edges_below n j) (edges_from n j) (rising_below n j) (rising_from n j) split)
 

@@ -1,7 +1,7 @@
 -- Lists in which each element stands before every later one, and the lists that the numbers below n give.
 --   Rising R xs   each element of xs stands in the relation R to every later one
 use Rattle.std.proofs.Common.{◌≡◌, ℕ, zero, suc, ◌-◌, ◌<◌, ◌≤◌, Bool, true, false, cond, List, [], ◌∷◌, ◌++◌, map, length, get_or, filter, sym, refl, ap, ◌∙◌, subst, inl, inr, arith}
-use Rattle.std.specs.List.{flat_map, ContainsAt as Has, AllByRecursion as All}
+use Rattle.std.specs.List.{flat_map, ContainsAt as Has, AllByRecursion}
 use Rattle.std.proofs.ByRecursion.{All-append, all_kept_by, All-get_or, All-push, All-weaker, All-map, has_append_left, has_append_right}
 use Rattle.std.proofs.lemmas.List.{flat_map_more, length-append, get_or-map, length-map}
 use Rattle.std.proofs.lemmas.Bool.{cases_lt, cases_Bool}
@@ -10,10 +10,10 @@ use Rattle.sets.proofs.Members.{kept_more}
 
 abbrev pub Rising : {X : Type 0} → (X → X → Type 0) → List X → Type 0
 Rising R [] = Unit {0}
-Rising R (x ∷ xs) = All (R x) xs × Rising R xs
+Rising R (x ∷ xs) = AllByRecursion (R x) xs × Rising R xs
 
 module _ {X : Type 0} (R : X → X → Type 0) where
-  pub rising_append : (xs ys : List X) → Rising R xs → Rising R ys → All (λ x. All (R x) ys) xs → Rising R (xs ++ ys)
+  pub rising_append : (xs ys : List X) → Rising R xs → Rising R ys → AllByRecursion (λ x. AllByRecursion (R x) ys) xs → Rising R (xs ++ ys)
   rising_append [] ys a b h = b
   rising_append (x ∷ xs) ys a b h = (All-append (R x) xs ys a.0 h.0, rising_append xs ys a.1 b h.1)
 
@@ -21,7 +21,7 @@ module _ {X : Type 0} (R : X → X → Type 0) where
   rising_kept p [] a = tt
   rising_kept p (x ∷ xs) a = either (p x) (all_kept_by p (R x) xs a.0) (rising_kept p xs a.1)
     where
-      either : (b : Bool) → All (R x) (filter p xs) → Rising R (filter p xs) → Rising R (cond b (x ∷ filter p xs) (filter p xs))
+      either : (b : Bool) → AllByRecursion (R x) (filter p xs) → Rising R (filter p xs) → Rising R (cond b (x ∷ filter p xs) (filter p xs))
       either true h k = (h, k)
       either false h k = k
 
@@ -37,7 +37,7 @@ module _ {X : Type 0} (R : X → X → Type 0) where
 
 -- ---- the numbers below n
 
-pub all_upto : (n : ℕ) → All (λ v. v < n) (upto n)
+pub all_upto : (n : ℕ) → AllByRecursion (λ v. v < n) (upto n)
 unfolding upto
 all_upto zero = tt
 all_upto (suc n) =
@@ -48,7 +48,7 @@ unfolding upto
 rising_upto zero = tt
 rising_upto (suc n) =
     rising_append (λ u v. u < v) (upto n) (n ∷ []) (rising_upto n) (tt, tt)
-    (All-weaker (λ v. v < n) (λ v. All (λ w. v < w) (n ∷ [])) (λ v h. (h, tt)) (upto n) (all_upto n))
+    (All-weaker (λ v. v < n) (λ v. AllByRecursion (λ w. v < w) (n ∷ [])) (λ v h. (h, tt)) (upto n) (all_upto n))
 
 -- one that passes a test is kept
 pub has_kept : (p : ℕ → Bool) (n v : ℕ) → v < n → p v ≡ true → Has (filter p (upto n)) v
@@ -87,7 +87,7 @@ module _ {X : Type 0} where
   unfolding upto
   joined_upto f n = sym (flat_map_more f [] (upto n) n)
 
-  pub all_joined : {Y : Type 0} (P : X → Type 0) (f : Y → List X) (ys : List Y) → All (λ y. All P (f y)) ys → All P (flat_map f ys)
+  pub all_joined : {Y : Type 0} (P : X → Type 0) (f : Y → List X) (ys : List Y) → AllByRecursion (λ y. AllByRecursion P (f y)) ys → AllByRecursion P (flat_map f ys)
   all_joined P f [] h = tt
   all_joined P f (y ∷ ys) h = All-append P (f y) (flat_map f ys) h.0 (all_joined P f ys h.1)
 

@@ -7,7 +7,7 @@
 --   file_parts                  the parts make the file
 --   file_written                what was written to the front of a buffer is as it should be
 use Rattle.std.proofs.Common.{◌≡◌, ℕ, zero, suc, ◌+◌, ◌*◌, ◌/◌, ◌%◌, ◌<◌, ◌≤◌, List, [], ◌∷◌, ◌++◌, length, get_or, take, sum_by, sym, refl, ap, ◌∙◌, subst, inl, inr, arith}
-use Rattle.std.specs.List.{flat_map, AllByRecursion as All}
+use Rattle.std.specs.List.{flat_map, AllByRecursion}
 use Rattle.std.proofs.lemmas.List.{append_assoc, append-nil, length-append, take_all}
 use Rattle.std.proofs.lemmas.Bool.{cases_lt}
 use Rattle.byte_fields.specs.Wrote.{Wrote}
@@ -114,7 +114,7 @@ module _ {u : ℕ} {all left rest : List ℕ} {v : ℕ} {xs : List ℕ} {from at
   }
 
 pub member_small : (m v : ℕ) (rest : List ℕ) → members m ≡ v ∷ rest → v < 64
-member_small m v rest e = (subst (All (λ w. (w < 64) × In w m)) e (members_all m)).0.0
+member_small m v rest e = (subst (AllByRecursion (λ w. (w < 64) × In w m)) e (members_all m)).0.0
 
 -- ---- the edges of one operator more
 

@@ -1,6 +1,6 @@
 -- A set, its lowest operator, and the set of its others.
 use Rattle.std.proofs.Common.{◌≡◌, ℕ, zero, suc, ◌^◌, ◌<◌, Bool, true, false, cond, ◌&&◌, ◌||◌, eqb, ltb, List, [], ◌∷◌, ◌++◌, filter, sym, refl, ap, ◌∙◌, subst, inl, inr, arith}
-use Rattle.std.specs.List.{AllByRecursion as All}
+use Rattle.std.specs.List.{AllByRecursion}
 use Rattle.std.proofs.ByRecursion.{All-append}
 use Rattle.std.proofs.lemmas.Bool.{false≢true, cases_eq, cases_lt, eqb-true, eq-eqb, ne_eqb, lt-ltb, le-ltb, or_cases}
 use Rattle.std.proofs.lemmas.Bool.Decides.{nat_tests}
@@ -45,7 +45,7 @@ among_kept p (suc k) u = ap (among u) (kept_more p k) ∙ among_append u (filter
       | inr other ↦ rw (further other) (or_false (ltb u k && p u))
     ]
 
-all_among : (P : ℕ → Type 0) (xs : List ℕ) (u : ℕ) → All P xs → among u xs ≡ true → P u
+all_among : (P : ℕ → Type 0) (xs : List ℕ) (u : ℕ) → AllByRecursion P xs → among u xs ≡ true → P u
 all_among P [] u all e = absurd (false≢true e)
 all_among P (x ∷ xs) u all e = elim (or_cases (eqb u x) (among u xs) e) [ inl h ↦ subst P (sym (eqb-true u x h)) all.0 | inr h ↦ all_among P xs u all.1 h ]
 
@@ -56,27 +56,27 @@ has_members m u small = among_kept (has m) 64 u ∙ elim (cases_lt u 64) [
 ]
 
 -- what a test keeps ascends
-first_least : (p : ℕ → Bool) (k v : ℕ) (xs : List ℕ) → filter p (upto k) ≡ v ∷ xs → All (λ u. v < u) xs
+first_least : (p : ℕ → Bool) (k v : ℕ) (xs : List ℕ) → filter p (upto k) ≡ v ∷ xs → AllByRecursion (λ u. v < u) xs
 unfolding upto
 first_least p zero v xs e = let z : ◌≡◌ {A = ℕ} 0 1 = cc in absurd (omega arith)
 first_least p (suc k) v xs e = step (filter p (upto k)) (kept_all p k) (λ w zs f. first_least p k w zs f) (p k) (sym (kept_more p k) ∙ e)
   where
-    step : (ys : List ℕ) → All (λ u. (u < k) × (p u ≡ true)) ys → ((w : ℕ) (zs : List ℕ) → ys ≡ w ∷ zs → All (λ u. w < u) zs) → (b : Bool) → ys ++ cond b (k ∷ []) [] ≡ v ∷ xs → All (λ u. v < u) xs
-    step [] all before true h = let none : [] ≡ xs = cc in subst (All (λ u. v < u)) none tt
+    step : (ys : List ℕ) → AllByRecursion (λ u. (u < k) × (p u ≡ true)) ys → ((w : ℕ) (zs : List ℕ) → ys ≡ w ∷ zs → AllByRecursion (λ u. w < u) zs) → (b : Bool) → ys ++ cond b (k ∷ []) [] ≡ v ∷ xs → AllByRecursion (λ u. v < u) xs
+    step [] all before true h = let none : [] ≡ xs = cc in subst (AllByRecursion (λ u. v < u)) none tt
     step [] all before false h = let z : ◌≡◌ {A = ℕ} 0 1 = cc in absurd (omega arith)
     step (y ∷ ys) all before true h =
         let first : y ≡ v = cc in
         let others : ys ++ (k ∷ []) ≡ xs = cc in
-        subst (λ (w : ℕ). All (λ u. w < u) xs) first (subst (All (λ u. y < u)) others (All-append (λ u. y < u) ys (k ∷ []) (before y ys refl) (all.0.0, tt)))
+        subst (λ (w : ℕ). AllByRecursion (λ u. w < u) xs) first (subst (AllByRecursion (λ u. y < u)) others (All-append (λ u. y < u) ys (k ∷ []) (before y ys refl) (all.0.0, tt)))
     step (y ∷ ys) all before false h =
         let first : y ≡ v = cc in
         let others : ys ++ [] ≡ xs = cc in
-        subst (λ (w : ℕ). All (λ u. w < u) xs) first (subst (All (λ u. y < u)) others (All-append (λ u. y < u) ys [] (before y ys refl) tt))
+        subst (λ (w : ℕ). AllByRecursion (λ u. w < u) xs) first (subst (AllByRecursion (λ u. y < u)) others (All-append (λ u. y < u) ys [] (before y ys refl) tt))
 
 -- ---- `v` is taken out of m, and `rest` are the others
 
 pub lowest_few : (m v rest : ℕ) → members m ≡ v ∷ members rest → v < 64
-lowest_few m v rest is = (subst (All (λ u. (u < 64) × In u m)) is (members_all m)).0.0
+lowest_few m v rest is = (subst (AllByRecursion (λ u. (u < 64) × In u m)) is (members_all m)).0.0
 
 module _ (m v rest : ℕ) (small : m < 2 ^ 64) (less : rest < 2 ^ 64) (is : members m ≡ v ∷ members rest) where
   pub lowest_below : (u : ℕ) → In u rest → v < u

@@ -48,9 +48,9 @@ module _ {R : Type 0} (s : Rules R) where
   tried_suc j k (Some c) (Some w) y = stands_so (eqb (suc j) 0) (eqb (number c.kind) 0) _ (shown s y) (ne_eqb (suc j) 0 (λ e. omega arith)) (number_some c.kind) ∙ lowered_is y (record { rating = s.joined c.rating w; origin = suc j; kind = k })
 
 -- a setting in which start stands at the empty ideal, whatever the counts
-module _ {R : Type 0} (e : Setting R) (ground : (a b : ℕ) → e.ground a b ≡ true) where
+module _ {R : Type 0} (e : Setting R) (bottom : (a b : ℕ) → e.bottom a b ≡ true) where
   best_zero : (a b : ℕ) → best e a b 0 ≡ Some e.rules.start
-  best_zero a b = best_via e a b 0 ∙ ap (λ t. cond t (Some e.rules.start) None) (ground a b)
+  best_zero a b = best_via e a b 0 ∙ ap (λ t. cond t (Some e.rules.start) None) (bottom a b)
 
   pick_tried : (j : ℕ) (k : KindNumber) (a b : ℕ) (x : Option PlainLoad) (y : Option (Candidate R)) → tried e.rules (by j k) x (shown e.rules (pick e a b j)) (shown e.rules y) ≡ shown e.rules (lesser e.rules y (offer e.rules j k (best e a b j) x))
   pick_tried zero k a b x y = tried_zero e.rules k x y ∙ ap (λ r. shown e.rules (lesser e.rules y (offer e.rules 0 k r x))) (sym (best_zero a b))

@@ -24,7 +24,7 @@ cell_is k l i a b = omega (arith, add-mul (i * (k + 1)) a (l + 1), mul_assoc i (
 pub cells_are : (k l n : ℕ) → cells_of k l n ≡ n * width_of k l
 cells_are k l n = mul_assoc n (k + 1) (l + 1)
 
-module _ {R : Type 0} (e : Setting R) (ground : (a b : ℕ) → e.ground a b ≡ true) (k l : ℕ) where
+module _ {R : Type 0} (e : Setting R) (bottom : (a b : ℕ) → e.bottom a b ≡ true) (k l : ℕ) where
   abbrev Row : ℕ → (ℕ → ℕ → Cell R → Cell R) → (ℕ → Cell R) → (ℕ → Cell R) → Type 0
   Row i g t₀ t₁ = Onto l (k + 1) (i * width_of k l) g t₀ t₁
 
@@ -49,7 +49,7 @@ module _ {R : Type 0} (e : Setting R) (ground : (a b : ℕ) → e.ground a b ≡
         ∙ ap (λ z. both e.rules j x y (row l (j * width_of k l) t₂) a b z) (p.here a b h h')
         ∙ ap (λ z. both e.rules j z y (row l (j * width_of k l) t₂) a b (reached e i j a b (clear_cell e.rules))) (sym (ex a b))
         ∙ ap (λ z. both e.rules j (cut e one a b i j) z (row l (j * width_of k l) t₂) a b (reached e i j a b (clear_cell e.rules))) (sym (ey a b))
-        ∙ both_is e ground (k + 1) l j (row l (j * width_of k l) t₂) right (cut e one a b i j) (cut e two a b i j) a b (among e.rules (less_one e a b) (less_two e a b) (cut e one a b i) (cut e two a b i) j) h h'
+        ∙ both_is e bottom (k + 1) l j (row l (j * width_of k l) t₂) right (cut e one a b i j) (cut e two a b i j) a b (among e.rules (less_one e a b) (less_two e a b) (cut e one a b i) (cut e two a b i) j) h h'
         ∙ ap (λ n. reached e i n a b (clear_cell e.rules)) (sym (add-one j));
     below = λ c h. q.below c h ∙ p.below c h;
     above = λ c h. q.above c h ∙ p.above c h;
@@ -80,11 +80,11 @@ module _ {R : Type 0} (e : Setting R) (ground : (a b : ℕ) → e.ground a b ≡
   pick_rating : (a b i : ℕ) → (shown e.rules (pick e a b i)).rating ≡ or_start e.rules (best e a b i)
   pick_rating a b i = step i ∙ ap (or_start e.rules) (sym (best_via e a b i))
     where
-      at_ground : or_start e.rules (via e (less_one e a b) (less_two e a b) a b 0) ≡ e.rules.start
-      at_ground = ap (λ t. or_start e.rules (cond t (Some e.rules.start) None)) (ground a b)
+      at_bottom : or_start e.rules (via e (less_one e a b) (less_two e a b) a b 0) ≡ e.rules.start
+      at_bottom = ap (λ t. or_start e.rules (cond t (Some e.rules.start) None)) (bottom a b)
 
       step : (i : ℕ) → (shown e.rules (pick e a b i)).rating ≡ or_start e.rules (via e (less_one e a b) (less_two e a b) a b i)
-      step zero = sym at_ground
+      step zero = sym at_bottom
       step (suc i) = rated (pick e a b (suc i))
 
   shown_choice : (c : Option (Candidate R)) → (shown e.rules c).choice ≡ chosen c

@@ -1,5 +1,5 @@
 use Rattle.std.proofs.Common.{◌≡◌, ℕ, ◌<◌, ◌≤◌, Bool, filter, arith}
-use Rattle.std.specs.List.{AllByRecursion as All}
+use Rattle.std.specs.List.{AllByRecursion}
 use Rattle.std.proofs.lemmas.List.{length-take-le}
 use Rattle.sets.specs.Sets.{has, both, members, full, upto, gathered}
 use Rattle.sheet.specs.declared.sheets.Sheet.{Sheet}
@@ -23,7 +23,7 @@ module _ (s : Sheet) where
   tested_is : (p : ℕ → Bool) (set : ℕ) → set ≡ gathered p (size (net s)) → members set ≡ filter p (upto (size (net s)))
   tested_is p set is = members_tested p set (size (net s)) few is
 
-  known : (p : ℕ → Bool) (set : ℕ) → members set ≡ filter p (upto (size (net s))) → All (λ v. v < s.operators) (members set)
+  known : (p : ℕ → Bool) (set : ℕ) → members set ≡ filter p (upto (size (net s))) → AllByRecursion (λ v. v < s.operators) (members set)
   known p set is = kept_below p set (size (net s)) s.operators front is
 
 pub sum-requires : goal.sum-requires

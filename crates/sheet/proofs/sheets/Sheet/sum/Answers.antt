@@ -1,5 +1,5 @@
 use Rattle.std.proofs.Common.{◌≡◌, ℕ, ◌+◌, ◌<◌, ◌∷◌, sum_by, sym, ap, ◌∙◌, subst, arith}
-use Rattle.std.specs.List.{AllByRecursion as All}
+use Rattle.std.specs.List.{AllByRecursion}
 use Rattle.sets.specs.Sets.{members}
 use Rattle.sheet.specs.Rules.{blank}
 use Rattle.sheet.specs.Nets.{row}
@@ -10,8 +10,8 @@ use Rattle.sheet.proofs.Charges.{walk_more, walk_all, sum_le}
 use Rattle.sheet.proofs.sheets.Sheet.sum.Goals as goal
 
 -- those that are left are operators, and so is the one that was taken
-left-of : (c : goal.After-figure-total) → All (λ v. v < c.args.self.now.operators) (c.in-Some.v ∷ members c.take_lowest.new.mask)
-left-of c = subst (All (λ v. v < c.args.self.now.operators)) c.in-Some.ensures c.loop-v.invariant.0
+left-of : (c : goal.After-figure-total) → AllByRecursion (λ v. v < c.args.self.now.operators) (c.in-Some.v ∷ members c.take_lowest.new.mask)
+left-of c = subst (AllByRecursion (λ v. v < c.args.self.now.operators)) c.in-Some.ensures c.loop-v.invariant.0
 
 -- the figure that was added
 added_is : (c : goal.After-figure-total) → c.figure-total.result ≡ figure_of c.args.which (row (net c.args.self.now) c.in-Some.v)
