@@ -1,6 +1,8 @@
-use Rattle.std.proofs.Common.{◌≡◌, ℕ, ◌+◌, ◌<◌, ◌∷◌, sum_by, sym, ap, ◌∙◌, subst, arith}
+use Rattle.std.proofs.Common.{◌≡◌, ℕ, ◌+◌, ◌<◌, ◌∷◌, get_or, sum_by, sym, ap, ◌∙◌, subst, arith}
 use Rattle.std.specs.List.{AllByRecursion}
 use Rattle.sets.specs.Sets.{members}
+use Rattle.sheet.specs.declared.operators.Figure.{Figure}
+use Rattle.sheet.specs.declared.sheets.Sheet.{Sheet}
 use Rattle.sheet.specs.Rules.{blank}
 use Rattle.sheet.specs.Nets.{row}
 use Rattle.sheet.specs.Figures.{figure_of}
@@ -9,33 +11,31 @@ use Rattle.std.proofs.lemmas.List.{get_or-take}
 use Rattle.sheet.proofs.Charges.{walk_more, walk_all, sum_le}
 use Rattle.sheet.proofs.sheets.Sheet.sum.Goals as goal
 
--- those that are left are operators, and so is the one that was taken
-left-of : (c : goal.After-figure-total) → AllByRecursion (λ v. v < c.args.self.now.operators) (c.in-Some.v ∷ members c.take_lowest.new.mask)
-left-of c = subst (AllByRecursion (λ v. v < c.args.self.now.operators)) c.in-Some.ensures c.loop-v.invariant.0
+-- those that are left are operators, and so is the one that is taken
+left_of : (s : Sheet) (v left rest : ℕ) → members left ≡ v ∷ members rest → AllByRecursion (λ u. u < s.operators) (members left) → AllByRecursion (λ u. u < s.operators) (v ∷ members rest)
+left_of s v left rest e h = subst (AllByRecursion (λ u. u < s.operators)) e h
 
--- the figure that was added
-added_is : (c : goal.After-figure-total) → c.figure-total.result ≡ figure_of c.args.which (row (net c.args.self.now) c.in-Some.v)
-added_is c =
-    let s = c.args.self.now in
-    c.figure-total.ensures ∙ ap (figure_of c.args.which) (sym (get_or-take s.operators s.rows c.in-Some.v blank (left-of c).0))
-
-step : (c : goal.After-figure-total)
-    → (c.loop-v.total + c.figure-total.result) + sum_by (λ v. figure_of c.args.which (row (net c.args.self.now) v)) (members c.take_lowest.new.mask)
-    ≡ sum_by (λ v. figure_of c.args.which (row (net c.args.self.now) v)) (members c.args.set)
-step c =
-    let n = net c.args.self.now in
-    let w = c.args.which in
-    let rest = members c.take_lowest.new.mask in
-    ap (λ (x : ℕ). (c.loop-v.total + x) + sum_by (λ v. figure_of w (row n v)) rest) (added_is c)
-    ∙ walk_more n w c.loop-v.left c.take_lowest.new.mask c.loop-v.total (sum_by (λ v. figure_of w (row n v)) (members c.args.set)) c.in-Some.v c.in-Some.ensures c.loop-v.invariant.1
+-- with the figure in the row of the one that is taken, the sum is that of all
+step : (s : Sheet) (w : Figure) (set v left rest total : ℕ) → members left ≡ v ∷ members rest → AllByRecursion (λ u. u < s.operators) (members left)
+    → total + sum_by (λ u. figure_of w (row (net s) u)) (members left) ≡ sum_by (λ u. figure_of w (row (net s) u)) (members set)
+    → (total + figure_of w (get_or s.rows v blank)) + sum_by (λ u. figure_of w (row (net s) u)) (members rest) ≡ sum_by (λ u. figure_of w (row (net s) u)) (members set)
+step s w set v left rest total e h all =
+    let n = net s in
+    let own = ap (figure_of w) (sym (get_or-take s.operators s.rows v blank (left_of s v left rest e h).0)) in
+    ap (λ (x : ℕ). (total + x) + sum_by (λ u. figure_of w (row n u)) (members rest)) own
+    ∙ walk_more n w left rest total (sum_by (λ u. figure_of w (row n u)) (members set)) v e all
 
 pub overflow_add-total : goal.overflow_add-total
 overflow_add-total c =
     let s = c.args.self.now in
-    omega (arith, step c, sum_le (net s) c.args.which c.args.set s.modest)
+    let all = step s c.args.which c.args.set c.in-Some.v c.loop-v.left c.take_lowest.new.mask c.loop-v.total c.in-Some.ensures c.loop-v.invariant.0 c.loop-v.invariant.1 in
+    omega (arith, all, sum_le (net s) c.args.which c.args.set s.modest)
 
 pub loop-v-preserved : goal.loop-v-preserved
-loop-v-preserved c = ((left-of c).1, step c)
+loop-v-preserved c =
+    let s = c.args.self.now in
+    let all = step s c.args.which c.args.set c.in-Some.v c.loop-v.left c.take_lowest.new.mask c.loop-v.total c.in-Some.ensures c.loop-v.invariant.0 c.loop-v.invariant.1 in
+    ((left_of s c.in-Some.v c.loop-v.left c.take_lowest.new.mask c.in-Some.ensures c.loop-v.invariant.0).1, omega (arith, all))
 
 pub returns : goal.returns
 returns c =
