@@ -4,7 +4,7 @@ ghost use Rattle.refusals.specs.Told.{told, outcome};
 ghost use Rattle.sheet.specs.Changes.{unless};
 ghost use Rattle.device.specs.Limits.{most_limit};
 ghost use Rattle.device.specs.Loads.{accelerated};
-ghost use Rattle.std.proofs.Common.{rules};
+ghost use Rattle.std.proofs.Common.{rules, arith};
 
 use super::{Kind, Load};
 use refusals::Refusal;
@@ -40,7 +40,7 @@ impl Accelerator {
 impl Kind for Accelerator {
     ghost meaning = { λ a f. accelerated a.limit f };
 
-    ghost bounded = { Prim.search rules };
+    ghost bounded = { first_of (Prim.search rules, Prim.grind (arith, Self.row.coded.inj)) };
 
     fn load(&self, figures: &StageFigures) -> Option<Load> {
         if figures.size > self.limit {

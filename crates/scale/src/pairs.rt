@@ -1,6 +1,6 @@
 ghost use Rattle.scale.specs.Scales.{pair, pair_at_most, pair_of};
 ghost use Rattle.scale.specs.Larger.{larger_monotone, pair_total, pair_transitive};
-ghost use Rattle.std.proofs.Common.{rules as library_rules};
+ghost use Rattle.std.proofs.Common.{rules};
 
 use super::Scale;
 use device::Load;
@@ -21,11 +21,11 @@ impl Scale for Pair {
 
     ghost rules = { λ _. pair };
 
-    ghost total = { Prim.search library_rules };
+    ghost total = { Prim.search rules };
 
-    ghost antisymmetric = { Prim.search library_rules };
+    ghost antisymmetric = { Prim.search rules };
 
-    ghost transitive = { Prim.search library_rules };
+    ghost transitive = { Prim.search rules };
 
     ghost monotone = { λ scale x y z fair h. larger_monotone pair_at_most pair_total pair_transitive x y (pair_of z) h };
 

@@ -1,5 +1,5 @@
 ghost use Rattle.scale.specs.Scales.{peak};
-ghost use Rattle.std.proofs.Common.{rules as library_rules};
+ghost use Rattle.std.proofs.Common.{rules};
 
 use super::Scale;
 use device::Load;
@@ -13,13 +13,13 @@ impl Scale for Peak {
 
     ghost rules = { λ _. peak };
 
-    ghost total = { Prim.search library_rules };
+    ghost total = { Prim.search rules };
 
-    ghost antisymmetric = { Prim.search library_rules };
+    ghost antisymmetric = { Prim.search rules };
 
-    ghost transitive = { Prim.search library_rules };
+    ghost transitive = { Prim.search rules };
 
-    ghost monotone = { Prim.search library_rules };
+    ghost monotone = { Prim.search rules };
 
     fn is_at_most(&self, x: u32, y: u32) -> bool {
         x <= y

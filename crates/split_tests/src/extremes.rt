@@ -1,5 +1,5 @@
 ghost use Rattle.std.specs.Prelude.{true, None};
-ghost use Rattle.std.proofs.Common.{rules as library_rules};
+ghost use Rattle.std.proofs.Common.{rules};
 
 use device::{Kind, Load};
 use scale::Scale;
@@ -12,7 +12,7 @@ pub struct Nothing;
 impl Kind for Nothing {
     ghost meaning = { λ _ _. None };
 
-    ghost bounded = { Prim.search library_rules };
+    ghost bounded = { Prim.search rules };
 
     fn load(&self, _figures: &StageFigures) -> Option<Load> {
         None
@@ -28,13 +28,13 @@ impl Scale for Alike {
 
     ghost rules = { λ _. record { at_most = λ _ _. true; start = tt; joined = λ _ _. tt } };
 
-    ghost total = { Prim.search library_rules };
+    ghost total = { Prim.search rules };
 
-    ghost antisymmetric = { Prim.search library_rules };
+    ghost antisymmetric = { Prim.search rules };
 
-    ghost transitive = { Prim.search library_rules };
+    ghost transitive = { Prim.search rules };
 
-    ghost monotone = { Prim.search library_rules };
+    ghost monotone = { Prim.search rules };
 
     fn is_at_most(&self, _x: (), _y: ()) -> bool {
         true
