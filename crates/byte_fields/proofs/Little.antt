@@ -1,6 +1,6 @@
-use Rattle.std.proofs.Common.{◌≡◌, ℕ, zero, suc, ◌+◌, ◌-◌, ◌*◌, ◌/◌, ◌%◌, ◌^◌, ◌<◌, ◌≤◌, List, [], ◌∷◌, ◌++◌, length, get_or, take, drop, refl, ap, ◌∙◌, mul_assoc, arith}
+use Rattle.std.proofs.Common.{◌≡◌, ℕ, zero, suc, ◌+◌, ◌-◌, ◌*◌, ◌/◌, ◌%◌, ◌^◌, ◌<◌, ◌≤◌, List, [], ◌∷◌, ◌++◌, length, take, drop, refl, ap, ◌∙◌, mul_assoc, arith}
 use native.Mathlib.Nat.{pow-succ', mod-add-div, div-div-eq-div-mul}
-use Rattle.std.proofs.lemmas.List.{take_at, drop_at, take-take, drop-take, drop-drop, drop_more, take_rest}
+use Rattle.std.proofs.lemmas.List.{take-take, drop-take, drop-drop}
 use Rattle.byte_fields.specs.Little.{little, spread, field, Bytes}
 
 -- a number that n bytes can hold is what its n bytes stand for
@@ -36,13 +36,6 @@ little_append (b ∷ bs) cs =
     let more = ap (λ (p : ℕ). p * little cs) (pow-succ' 256 (length bs)) ∙ mul_assoc 256 (256 ^ length bs) (little cs) in
     omega (arith, little_append bs cs, more)
 
--- a field that was laid down is read again
-pub field_at : (front : List ℕ) (n x : ℕ) (rest : List ℕ) (at : ℕ) → length front ≡ at → x < 256 ^ n → field (front ++ (spread n x ++ rest)) at n ≡ x
-field_at front n x rest at e h =
-    ap (λ (cs : List ℕ). little (take n cs)) (drop_at front (spread n x ++ rest) at e)
-    ∙ ap little (take_at (spread n x) rest n (length_spread n x))
-    ∙ little_spread n x h
-
 -- a field inside a part
 pub field_part : (bs : List ℕ) (a at n m : ℕ) → at + n ≤ m → field (take m (drop a bs)) at n ≡ field bs (a + at) n
 field_part bs a at n m h =
@@ -52,38 +45,6 @@ field_part bs a at n m h =
     ∙ ap little (take-take n (m - at) (drop at (drop a bs)) (omega arith))
     ∙ ap (λ (cs : List ℕ). little (take n cs)) (drop-drop at a bs)
 
--- a field at the start of what lies past `at`
-pub field_rest : (bs part : List ℕ) (at n : ℕ) → part ≡ take (length bs - at) (drop at bs) → field part 0 n ≡ field bs at n
-field_rest bs part at n e = ap (λ (cs : List ℕ). little (take n cs)) (e ∙ take_rest bs at)
-
--- the first byte of a field, and the field after it
-pub field_more : (bs : List ℕ) (at n : ℕ) → at < length bs → field bs at (suc n) ≡ get_or bs at 0 + 256 * field bs (at + 1) n
-field_more bs at n h = ap (λ (cs : List ℕ). little (take (suc n) cs)) (drop_more bs at 0 h)
-
--- the same, at the byte k of a field
-byte_more : (bs : List ℕ) (at k n : ℕ) → at + k < length bs → field bs (at + k) (suc n) ≡ get_or bs (at + k) 0 + 256 * field bs (at + suc k) n
-byte_more bs at k n h =
-    let next : at + k + 1 ≡ at + suc k = omega arith in
-    field_more bs (at + k) n h ∙ ap (λ (j : ℕ). get_or bs (at + k) 0 + 256 * field bs j n) next
-
--- what `u16::from_le_bytes` and `u32::from_le_bytes` give
-pub little_two : (bs : List ℕ) (at : ℕ) → at + 2 ≤ length bs → field bs at 2 ≡ get_or bs at 0 + get_or bs (at + 1) 0 * 256
-little_two bs at h =
-    let a = field_more bs at 1 (omega arith) in
-    let b = byte_more bs at 1 0 (omega arith) in
-    omega (arith, a, b)
-
-pub little_four : (bs : List ℕ) (at : ℕ) → at + 4 ≤ length bs → field bs at 4 ≡ get_or bs at 0 + get_or bs (at + 1) 0 * 256 + get_or bs (at + 2) 0 * 65536 + get_or bs (at + 3) 0 * 16777216
-little_four bs at h =
-    let a = field_more bs at 3 (omega arith) in
-    let b = byte_more bs at 1 2 (omega arith) in
-    let c = byte_more bs at 2 1 (omega arith) in
-    let d = byte_more bs at 3 0 (omega arith) in
-    omega (arith, a, b, c, d)
-
--- what `u16::to_le_bytes` and `u32::to_le_bytes` give
-pub spread_two : (x : ℕ) → spread 2 x ≡ (x % 256) ∷ (x / 256 % 256) ∷ []
-spread_two x = refl
-
+-- what `u32::to_le_bytes` gives
 pub spread_four : (x : ℕ) → spread 4 x ≡ (x % 256) ∷ (x / 256 % 256) ∷ (x / 65536 % 256) ∷ (x / 16777216 % 256) ∷ []
 spread_four x = simp div-div-eq-div-mul

@@ -1,7 +1,5 @@
-use Rattle.std.proofs.Common.{◌≡◌, ℕ, zero, suc, ◌+◌, ◌-◌, ◌<◌, ◌≤◌, List, [], ◌∷◌, ◌++◌, length, get_or, take, drop, sym, ap, ◌∙◌, add-zero, arith}
-use borrow.Rule.Slice.PartMut.{put_mid}
-use Rattle.std.specs.List.{flat_map}
-use Rattle.std.proofs.lemmas.List.{append_assoc, length-append, length-take-le, length-drop, take_at, drop_at, drop-drop, take_more, take-append-drop, flat_map_more}
+use Rattle.std.proofs.Common.{◌≡◌, ℕ, ◌+◌, ◌≤◌, List, [], ◌++◌, length, take, drop, sym, ap, ◌∙◌, add-zero, arith}
+use Rattle.std.proofs.lemmas.List.{append_assoc, length-append, length-take-le, length-drop, take_at, drop_at, drop-drop, take-append-drop}
 use Rattle.byte_fields.specs.Wrote.{Wrote}
 
 -- nothing written
@@ -48,21 +46,3 @@ module _ {xs : List ℕ} {at end : ℕ} {bs ys : List ℕ} (w : Wrote xs at end 
 -- what was written at the start
 pub wrote_take : {xs : List ℕ} {end : ℕ} {bs ys : List ℕ} → Wrote xs 0 end bs ys → take end ys ≡ bs
 wrote_take w = front w
-
--- what a copy into `buffer[at..end]` gives: zs is what the part holds after it
-pub wrote_one : (xs : List ℕ) (at end : ℕ) (bs zs : List ℕ) → end ≡ at + length bs → end ≤ length xs → zs ≡ bs → Wrote xs at end bs (put_mid at (end - at) xs zs)
-wrote_one xs at end bs zs e h same =
-    let size : end - at ≡ length bs = omega arith in
-    record { fits = omega arith; ends = e; after = simp (same, size, drop-drop) }
-
-module _ {X : Type 0} (f : X → List ℕ) where
-  -- the texts of the elements up to i, and that of one more
-  pub joined_step : (xs : List X) (i : ℕ) (d : X) → i < length xs → flat_map f (take (i + 1) xs) ≡ flat_map f (take i xs) ++ f (get_or xs i d)
-  joined_step xs i d h = ap (flat_map f) (take_more xs i d h) ∙ sym (flat_map_more f [] (take i xs) (get_or xs i d))
-
-  -- they are no longer than the texts of all
-  pub joined_room : (xs : List X) (i : ℕ) (d : X) → i < length xs → length (flat_map f (take i xs)) + length (f (get_or xs i d)) ≤ length (flat_map f xs)
-  joined_room [] i d h = absurd (omega arith)
-  joined_room (x ∷ xs) zero d h = omega (arith, length-append (f x) (flat_map f xs))
-  joined_room (x ∷ xs) (suc i) d h =
-      omega (arith, joined_room xs i d (omega arith), length-append (f x) (flat_map f (take i xs)), length-append (f x) (flat_map f xs))

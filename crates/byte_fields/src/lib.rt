@@ -1,33 +1,19 @@
+// Numbers as bytes, and bytes put into a buffer.
 #![tactic(auto)]
 
 ghost use Rattle.std.specs.Prelude.{◌≡◌, ◌+◌, ◌<◌, ◌≤◌, length, MatchOption};
 ghost use Rattle.byte_fields.specs.Little.{field};
 ghost use Rattle.byte_fields.specs.Wrote.{Wrote};
 
-// The number of two bytes from the place `at`, the low byte first, if they are there.
-pub fn read_u16(bytes: &[u8], at: usize) -> Option<u16>
-    ensures { MatchOption result (length bytes.now < at + 2) (λ x. (at + 2 ≤ length bytes.now) × (x ≡ field bytes.now at 2)) }
-{
-    let Some(part) = bytes.get(at..) else {
-        return None;
-    };
-    let [a, b, ..] = part else {
-        return None;
-    };
-    Some(u16::from_le_bytes([*a, *b]))
-}
+mod numbers;
 
-// The number of four bytes from the place `at`, the low byte first, if they are there.
-pub fn read_u32(bytes: &[u8], at: usize) -> Option<u32>
-    ensures { MatchOption result (length bytes.now < at + 4) (λ x. (at + 4 ≤ length bytes.now) × (x ≡ field bytes.now at 4)) }
+pub use numbers::Number;
+
+// The number that stands at the place `at`, if its bytes are there.
+pub fn read<N: Number>(bytes: &[u8], at: usize) -> Option<N>
+    ensures { MatchOption result (length bytes.now < at + N.width) (λ x. (at + N.width ≤ length bytes.now) × (N.value x ≡ field bytes.now at N.width)) }
 {
-    let Some(part) = bytes.get(at..) else {
-        return None;
-    };
-    let [a, b, c, d, ..] = part else {
-        return None;
-    };
-    Some(u32::from_le_bytes([*a, *b, *c, *d]))
+    N::from_front(bytes.get(at..)?)
 }
 
 // Writes `bytes` at the place `at` and says which place comes after them, or leaves `buffer` as it is where there is no room.

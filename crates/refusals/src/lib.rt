@@ -2,18 +2,26 @@
 #![tactic(auto)]
 
 ghost use Rattle.std.specs.Prelude.{◌≡◌, Some, slice_index};
-ghost use Rattle.refusals.specs.Told.{told, told_reason, spelled};
+ghost use Rattle.refusals.specs.Told.{told, told_reason, section_number, spelled};
 
 use std::fmt;
 
-// What is wrong with an entry of a sheet file's body.
+// What is wrong with an entry of a sheet file's body; each has the number by which it is told.
 #[derive(Clone, Copy, PartialEq, Eq, Debug)]
 pub enum Reason {
-    AboveLimit,
-    NoOperator,
-    NotUpward,
-    NotAscending,
-    CountAboveLimit,
+    AboveLimit = 1,
+    NoOperator = 3,
+    NotUpward = 4,
+    NotAscending = 5,
+    CountAboveLimit = 6,
+}
+
+// The sections of a sheet file; each has the number by which a file names it.
+#[derive(Clone, Copy, PartialEq, Eq, Debug)]
+pub enum Section {
+    Operators = 1,
+    Edges = 2,
+    Counts = 3,
 }
 
 #[derive(Clone, Copy, PartialEq, Eq, Debug)]
@@ -42,7 +50,7 @@ pub enum Refusal {
     ContentsEntry(u8),
     // in the body of a section, the entry with an index is wrong
     BodyEntry {
-        section: u8,
+        section: Section,
         entry: usize,
         reason: Reason,
     },
@@ -55,18 +63,22 @@ impl Reason {
     pub fn number(&self) -> u8
         ensures { result ≡ told_reason self.now }
     {
-        match self {
-            Reason::AboveLimit => 1,
-            Reason::NoOperator => 3,
-            Reason::NotUpward => 4,
-            Reason::NotAscending => 5,
-            Reason::CountAboveLimit => 6,
-        }
+        *self as u8
+    }
+}
+
+impl Section {
+    // The number by which a file names a section.
+    pub fn number(&self) -> u8
+        ensures { result ≡ section_number self.now }
+    {
+        *self as u8
     }
 }
 
 impl Refusal {
     // The number by which a refusal is told, the first of what `told` gives.
+    // The cases are named here, since one that carries values cannot have a number of its own.
     pub fn number(&self) -> u8
         ensures { result ≡ slice_index (told self.now) 0 }
     {
@@ -101,6 +113,7 @@ impl fmt::Display for Refusal {
                 entry,
                 reason,
             } => {
+                let section = section.number();
                 let reason = reason.number();
                 write!(f, "{number} {section} {entry} {reason}")
             }

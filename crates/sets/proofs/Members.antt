@@ -174,10 +174,6 @@ members_none = kept_none (has 0) 64 (λ v h. has_none v)
 
 -- ---- what a test gathers
 
-pub gathered_more : (p : ℕ → Bool) (v : ℕ) → gathered p (suc v) ≡ gathered p v + cond (p v) (2 ^ v) 0
-unfolding gathered
-gathered_more p v = refl
-
 pub gathered_lt : (p : ℕ → Bool) (n : ℕ) → gathered p n < 2 ^ n
 unfolding gathered
 gathered_lt p zero = omega arith

@@ -1,10 +1,9 @@
 -- The laws of sets. Above this file and Members nothing speaks of a mask's digits.
-use Rattle.std.proofs.Common.{◌≡◌, ℕ, zero, suc, ◌-◌, ◌*◌, ◌/◌, ◌%◌, ◌^◌, ◌<◌, ◌≤◌, Bool, true, false, cond, not, ◌&&◌, ◌||◌, eqb, ltb, ◌⊎◌, Decides, sym, refl, ap, ◌∙◌, inl, inr, pow-suc, div-one, arith, pow_pos}
+use Rattle.std.proofs.Common.{◌≡◌, ℕ, zero, suc, ◌-◌, ◌/◌, ◌%◌, ◌^◌, ◌<◌, ◌≤◌, Bool, true, false, cond, not, ◌&&◌, ◌||◌, eqb, ltb, ◌⊎◌, Decides, sym, refl, ap, ◌∙◌, inl, inr, pow-suc, div-one, arith, pow_pos}
 use native.Mathlib.Nat.{div-div-eq-div-mul, pow-succ'}
 use lib.Arith.{bin_ind}
 use lib.Bits.{bit_and, bit_or, and_step, or_step}
 use Rattle.std.proofs.lemmas.Bool.{eqb-true, eqb-false, eq-eqb, ne_eqb, both_ways, cases_lt, cases_Bool, and_parts, and_from, not-true, lt-ltb, le-ltb}
-use Rattle.std.proofs.lemmas.Nat.{one_shl}
 use Rattle.std.proofs.lemmas.Bool.Decides.{nat_tests}
 use Rattle.sets.specs.Sets.{has, In, inside, meeting, including, full}
 
@@ -231,10 +230,6 @@ has_difference s t v small few = has_and s (2 ^ 64 - 1 - t) v ∙ elim (cases_lt
   | inr l ↦ rw (has_above 64 s v small l) refl
 ]
 
--- `mask | 1 << v`
-pub include_is : (m v : ℕ) → v < 64 → bit_or m ((1 * 2 ^ v) % 2 ^ 64) ≡ including m v
-include_is m v h = ap (λ (x : ℕ). bit_or m x) (one_shl v 64 h)
-
 pub has_including : (m v u : ℕ) → has (including m v) u ≡ (has m u || eqb u v)
 has_including m v u = has_or m (2 ^ v) u ∙ ap (λ (b : Bool). has m u || b) (has_single v u)
 
@@ -245,6 +240,3 @@ has_full n v = elim (cases_lt v n) [
       ap (λ (m : ℕ). has m v) same ∙ has_complement n 0 v (pow_pos n) l ∙ ap not (has_none v) ∙ sym (lt-ltb v n l)
   | inr l ↦ has_above n (2 ^ n - 1) v (omega (arith, pow_pos n)) l ∙ sym (le-ltb v n l)
 ]
-
-pub full_lt : (n : ℕ) → full n < 2 ^ n
-full_lt n = omega (arith, pow_pos n)

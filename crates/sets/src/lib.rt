@@ -5,6 +5,10 @@ ghost use Rattle.std.specs.Prelude.{◌≡◌, min, [], ◌∷◌, length, if◌
 ghost use Rattle.sets.specs.Sets.{has, inside, meeting, either, both, without, including, full, members};
 ghost use Rattle.sets.specs.Laws.{LawsStand};
 
+mod walks;
+
+pub use walks::{Ascending, members_of};
+
 // Whether operator `v` is in the set; none from 64 on is in any.
 pub fn holds(mask: u64, v: usize) -> bool
     ensures { result ≡ has mask v }
@@ -81,8 +85,6 @@ pub fn take_lowest(mask: &mut u64) -> Option<usize>
 }
 
 // What these operations mean for the members of sets.
-pub fn laws_stand() -> u8
+pub fn laws_stand()
     ensures { LawsStand }
-{
-    0
-}
+{}
