@@ -1,4 +1,5 @@
 pub mod Rules
+pub mod Nodes
 pub mod Nets
 pub mod Figures
 pub mod Views

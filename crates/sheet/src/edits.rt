@@ -5,7 +5,7 @@ ghost use Rattle.sheet.specs.Nets.{size, empty};
 ghost use Rattle.sheet.specs.Views.{net};
 ghost use Rattle.sheet.specs.Changes.{changed, within, add_refusal, added, join_refusal, joined, retime_refusal, retimed, count_refusal, counted};
 
-use super::{Operator, Sheet};
+use super::{Counts, Node, Operator, Sheet};
 use refusals::Refusal;
 
 pub const MOST_OPERATORS: usize = 64;
@@ -14,11 +14,14 @@ pub const MOST_FIGURE: u32 = 1_000_000;
 
 pub const MOST_DEVICES: u8 = 8;
 
-const BLANK: Operator = Operator {
-    acc: 0,
-    cpu: 0,
-    size: 0,
-    link: 0,
+const BLANK: Node = Node {
+    figures: Operator {
+        acc: 0,
+        cpu: 0,
+        size: 0,
+        link: 0,
+    },
+    successors: 0,
 };
 
 impl Operator {
@@ -26,10 +29,9 @@ impl Operator {
     pub fn is_within(&self) -> bool
         ensures { result ≡ within self.now }
     {
-        self.acc <= MOST_FIGURE
-            && self.cpu <= MOST_FIGURE
-            && self.size <= MOST_FIGURE
-            && self.link <= MOST_FIGURE
+        [self.acc, self.cpu, self.size, self.link]
+            .iter()
+            .all(|figure| *figure <= MOST_FIGURE)
     }
 }
 
@@ -40,14 +42,13 @@ impl Sheet {
     {
         Sheet {
             operators: 0,
-            rows: [BLANK; 64],
-            successors: [0; 64],
-            k: 0,
-            l: 0,
+            nodes: [BLANK; MOST_OPERATORS],
+            counts: Counts { k: 0, l: 0 },
         }
     }
 
     // Appends an operator and answers its number.
+    #[tactic(auto, using(crate::proofs::Fronts::size_is))]
     pub fn add(&mut self, operator: Operator) -> Result<usize, Refusal>
         ensures refuses { outcome result ≡ add_refusal (net self.old) operator }
         ensures value { IfOk result (λ v. v ≡ size (net self.old)) }
@@ -60,13 +61,16 @@ impl Sheet {
         if !operator.is_within() {
             return Err(Refusal::AboveLimit);
         }
-        self.rows[v] = operator;
-        self.successors[v] = 0;
+        self.nodes[v] = Node {
+            figures: operator,
+            successors: 0,
+        };
         self.operators = v + 1;
         Ok(v)
     }
 
     // Adds an edge from one operator to another.
+    #[tactic(auto, using(crate::proofs::Fronts::size_is, crate::proofs::Fronts::after_is))]
     pub fn join(&mut self, from: usize, to: usize) -> Result<(), Refusal>
         ensures refuses { outcome result ≡ join_refusal (net self.old) from to }
         ensures changes { net self.new ≡ changed (outcome result) (net self.old) (joined (net self.old) from to) }
@@ -77,15 +81,16 @@ impl Sheet {
         if from >= to {
             return Err(Refusal::NotUpward);
         }
-        let successors = self.successors[from];
+        let successors = self.nodes[from].successors;
         if sets::holds(successors, to) {
             return Err(Refusal::EdgeExists);
         }
-        self.successors[from] = sets::include(successors, to);
+        self.nodes[from].successors = sets::include(successors, to);
         Ok(())
     }
 
     // Gives an operator other figures.
+    #[tactic(auto, using(crate::proofs::Fronts::size_is))]
     pub fn retime(&mut self, v: usize, figures: &Operator) -> Result<(), Refusal>
         ensures refuses { outcome result ≡ retime_refusal (net self.old) v figures.now }
         ensures changes { net self.new ≡ changed (outcome result) (net self.old) (retimed (net self.old) v figures.now) }
@@ -96,7 +101,8 @@ impl Sheet {
         if !figures.is_within() {
             return Err(Refusal::AboveLimit);
         }
-        let row = &mut self.rows[v];
+        // An operator is never copied: the row that the sheet keeps is written figure by figure.
+        let row = &mut self.nodes[v].figures;
         row.acc = figures.acc;
         row.cpu = figures.cpu;
         row.size = figures.size;
@@ -112,8 +118,7 @@ impl Sheet {
         if k > MOST_DEVICES || l > MOST_DEVICES {
             return Err(Refusal::CountAboveLimit);
         }
-        self.k = k;
-        self.l = l;
+        self.counts = Counts { k, l };
         Ok(())
     }
 }

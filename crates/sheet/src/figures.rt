@@ -2,7 +2,7 @@ ghost use Rattle.std.specs.Prelude.{◌≤◌};
 ghost use Rattle.sheet.specs.Rules.{most_sum};
 
 // The figures of a stage: its set of operators, what they sum up to, and the ticks to move what enters and what leaves it.
-#[derive(Clone, Copy)]
+#[derive(Clone, Copy, PartialEq, Eq, Debug)]
 pub struct StageFigures {
     pub mask: u64,
     pub acc: u32,

@@ -7,7 +7,7 @@ pub struct Operator {
     pub link: u32,
 }
 
-// One of the four.
+// One of the four. It names a figure in contracts too, which a closure that picks one could not, so it stays an enum.
 #[derive(Clone, Copy, PartialEq, Eq, Debug)]
 pub enum Figure {
     Acc,

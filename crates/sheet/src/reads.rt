@@ -1,11 +1,12 @@
 // What a sheet says.
-ghost use Rattle.std.specs.Prelude.{◌≡◌, ℕ, ◌<◌, ◌≤◌, length, sum_by, MatchOption};
-ghost use Rattle.sets.specs.Sets.{has, full};
+ghost use Rattle.std.specs.Prelude.{◌≡◌, ℕ, Bool, ◌<◌, ◌≤◌, length, map, sum_by, MatchOption};
+ghost use Rattle.sets.specs.Sets.{has, full, gathered};
+ghost use Rattle.sheet.specs.Nodes.{figures_in, successors_in};
 ghost use Rattle.sheet.specs.Nets.{size, row, after, before, edges_of};
 ghost use Rattle.sheet.specs.Kept.{Kept};
 ghost use Rattle.sheet.specs.Views.{net};
 
-use super::{Operator, Sheet};
+use super::{Counts, Node, Operator, Sheet};
 
 impl Sheet {
     // How many operators there are. Every sheet keeps the rules.
@@ -14,6 +15,14 @@ impl Sheet {
         ensures keeps { Kept (net self.now) }
     {
         self.operators
+    }
+
+    // The operators with their figures and edges, by number.
+    pub fn nodes(&self) -> &[Node]
+        ensures rows { map figures_in result.now ≡ (net self.now).rows }
+        ensures successors { map successors_in result.now ≡ (net self.now).successors }
+    {
+        &self.nodes[..self.operators]
     }
 
     // The set of all operators.
@@ -27,21 +36,28 @@ impl Sheet {
     pub fn row(&self, v: usize) -> Option<&Operator>
         ensures { MatchOption result (size (net self.now) ≤ v) (λ o. (v < size (net self.now)) × (o.now ≡ row (net self.now) v)) }
     {
-        if v >= self.operators {
-            return None;
-        }
-        Some(&self.rows[v])
+        self.nodes().get(v).map(|node| &node.figures)
     }
 
     // The operators that `v` has an edge to.
     pub fn successors(&self, v: usize) -> u64
         ensures { result ≡ after (net self.now) v }
     {
-        if v < self.operators {
-            self.successors[v]
-        } else {
-            0
+        self.nodes().get(v).map_or(0, |node| node.successors)
+    }
+
+    // The operators that pass a test. It is handed their numbers, so the loop goes over numbers and not over nodes.
+    pub(crate) fn gather<F: Fn(usize) -> bool>(&self, test: F) -> u64
+        requires { F.IsAlwaysCallable test }
+        ensures { (p : ℕ → Bool) → ((u : ℕ) (passes : Bool) → u < size (net self.now) → F.post test u passes → passes ≡ p u) → result ≡ gathered p (size (net self.now)) }
+    {
+        let mut set = 0;
+        for u in 0..self.operators {
+            if test(u) {
+                set = sets::include(set, u);
+            }
         }
+        set
     }
 
     // The operators that have an edge to `v`.
@@ -49,30 +65,23 @@ impl Sheet {
         ensures value { result ≡ before (net self.now) v }
         ensures means { (u : ℕ) → has result u ≡ has (after (net self.now) u) v }
     {
-        let mut set = 0;
-        for u in 0..self.operators {
-            if sets::holds(self.successors(u), v) {
-                set = sets::include(set, u);
-            }
-        }
-        set
+        self.gather(|u| sets::holds(self.successors(u), v))
     }
 
     // How many edges there are.
     pub fn edges(&self) -> usize
         ensures { result ≡ edges_of (net self.now) }
     {
-        let mut edges: usize = 0;
-        for u in 0..self.operators {
-            edges += sets::size(self.successors(u)) as usize;
-        }
-        edges
+        self.nodes()
+            .iter()
+            .map(|node| sets::size(node.successors) as usize)
+            .sum()
     }
 
     // How many devices there are of the first kind and of the second.
-    pub fn counts(&self) -> (u8, u8)
-        ensures { (result.0 ≡ (net self.now).k) × (result.1 ≡ (net self.now).l) }
+    pub fn counts(&self) -> Counts
+        ensures { (result.k ≡ (net self.now).k) × (result.l ≡ (net self.now).l) }
     {
-        (self.k, self.l)
+        self.counts
     }
 }

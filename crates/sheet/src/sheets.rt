@@ -1,19 +1,18 @@
-ghost use Rattle.std.specs.Prelude.{◌≡◌, ◌≤◌, length, take};
-ghost use Rattle.sheet.specs.Rules.{Modest, Upward, most_operators, most_devices};
+ghost use Rattle.std.specs.Prelude.{◌≡◌, ◌≤◌, length, map, take};
+ghost use Rattle.sheet.specs.Rules.{Modest, Upward, most_operators};
+ghost use Rattle.sheet.specs.Nodes.{figures_in, successors_in};
 
-use super::Operator;
+use super::edits::MOST_OPERATORS;
+use super::{Counts, Node};
 
-// The rows and the masks of successors beyond the operators say nothing.
+// The operators stand in fixed memory, since nothing here allocates; the nodes beyond them say nothing.
 #[derive(Drop)]
 pub struct Sheet {
     pub(crate) operators: usize,
-    pub(crate) rows: [Operator; 64],
-    pub(crate) successors: [u64; 64],
-    pub(crate) k: u8,
-    pub(crate) l: u8,
+    pub(crate) nodes: [Node; MOST_OPERATORS],
+    pub(crate) counts: Counts,
     ghost few: { operators ≤ most_operators },
-    ghost tables: { (length rows ≡ most_operators) × (length successors ≡ most_operators) },
-    ghost modest: { Modest (take operators rows) },
-    ghost upward: { Upward (take operators successors) },
-    ghost devices: { (k ≤ most_devices) × (l ≤ most_devices) },
+    ghost table: { length nodes ≡ most_operators },
+    ghost modest: { Modest (map figures_in (take operators nodes)) },
+    ghost upward: { Upward (map successors_in (take operators nodes)) },
 }

@@ -1,6 +1,5 @@
 // The figures of a stage.
-ghost use Rattle.std.specs.Prelude.{◌≡◌, ◌<◌, ◌≤◌, sum_by};
-ghost use Rattle.std.specs.List.{AllByRecursion};
+ghost use Rattle.std.specs.Prelude.{◌≡◌, ◌≤◌, sum_by};
 ghost use Rattle.sets.specs.Sets.{gathered, members};
 ghost use Rattle.sheet.specs.Rules.{most_sum};
 ghost use Rattle.sheet.specs.Nets.{size, row};
@@ -24,18 +23,21 @@ impl Operator {
 }
 
 impl Sheet {
-    // The sum of one figure over a set of operators.
+    // One figure of operator `v`, 0 where there is none.
+    fn figure_at(&self, v: usize, which: Figure) -> u32
+        ensures { result ≡ figure_of which (row (net self.now) v) }
+    {
+        self.row(v).map_or(0, |operator| operator.figure(which))
+    }
+
+    // The sum of one figure over a set. Bits that stand for no operator add nothing.
     fn sum(&self, set: u64, which: Figure) -> u32
-        requires { AllByRecursion (λ v. v < self.now.operators) (members set) }
         ensures value { result ≡ sum_by (λ v. figure_of which (row (net self.now) v)) (members set) }
         ensures bound { result ≤ most_sum }
     {
-        let mut total: u32 = 0;
-        let mut left = set;
-        while let Some(v) = sets::take_lowest(&mut left) {
-            total += self.rows[v].figure(which);
-        }
-        total
+        sets::members_of(set)
+            .map(|v| self.figure_at(v, which))
+            .sum()
     }
 
     // Whether `u` is outside the set and has an edge into it.
@@ -56,26 +58,14 @@ impl Sheet {
     pub fn feeding(&self, mask: u64) -> u64
         ensures { result ≡ gathered (feeds (net self.now) mask) (size (net self.now)) }
     {
-        let mut set = 0;
-        for u in 0..self.operators {
-            if self.is_feeding(mask, u) {
-                set = sets::include(set, u);
-            }
-        }
-        set
+        self.gather(|u| self.is_feeding(mask, u))
     }
 
     // The operators of the set that have an edge out of it.
     pub fn leaving(&self, mask: u64) -> u64
         ensures { result ≡ gathered (leaves (net self.now) mask) (size (net self.now)) }
     {
-        let mut set = 0;
-        for u in 0..self.operators {
-            if self.is_leaving(mask, u) {
-                set = sets::include(set, u);
-            }
-        }
-        set
+        self.gather(|u| self.is_leaving(mask, u))
     }
 
     // The figures of a set of operators as a stage. Bits that stand for no operator add nothing.

@@ -1,33 +1,29 @@
-use Rattle.std.proofs.Common.{◌≡◌, ◌<◌, length, sym, arith, rules}
-use Rattle.std.proofs.lemmas.List.{length-take-le}
-use Rattle.sheet.specs.Nets.{size}
-use Rattle.sheet.specs.Views.{net}
-use Rattle.sheet.proofs.Changes.{add_granted, modest_more, upward_more, added_more}
+use Rattle.std.proofs.Common.{◌<◌, length, sym, refl, ◌∙◌, arith, length-set}
+use Rattle.sheet.specs.declared.nodes.Node.{Node}
+use Rattle.sheet.specs.Nodes.{figures_in, successors_in}
+use Rattle.sheet.proofs.Fronts.{front_more}
+use Rattle.sheet.proofs.Changes.{modest_more, upward_more}
 use Rattle.sheet.proofs.sheets.Sheet.add.Goals as goal
 
-pub invariant_of-self : goal.invariant_of-self
-invariant_of-self c =
+pub invariant_of-self-clause-table : goal.invariant_of-self-clause-table
+invariant_of-self-clause-table c =
     let s = c.args.self.now in
-    let n = s.operators in
-    let room : n < length s.rows = omega arith in
-    let masks : n < length s.successors = omega arith in
-    record {
-      few = omega arith;
-      tables = (search rules, search rules);
-      modest = modest_more s.rows n c.args.operator room s.modest (sym c.if-not-is_within.ensures);
-      upward = upward_more s.successors n masks s.upward;
-      devices = s.devices;
-    }
+    length-set s.nodes s.operators (record { figures = c.args.operator; successors = 0 }) ∙ s.table
 
-pub returns : goal.returns
-returns c =
+pub invariant_of-self-clause-modest : goal.invariant_of-self-clause-modest
+invariant_of-self-clause-modest c =
+    let s = c.args.self.now in
+    modest_more s.nodes s.operators (record { figures = c.args.operator; successors = 0 }) (omega arith) s.modest (sym c.if-not-is_within.ensures)
+
+pub invariant_of-self-clause-upward : goal.invariant_of-self-clause-upward
+invariant_of-self-clause-upward c =
+    let s = c.args.self.now in
+    upward_more s.nodes s.operators (record { figures = c.args.operator; successors = 0 }) (omega arith) s.upward refl
+
+pub returns-clause-changes : goal.returns-clause-changes
+returns-clause-changes c =
     let s = c.args.self.now in
     let n = s.operators in
-    let room : n < length s.rows = omega arith in
-    let masks : n < length s.successors = omega arith in
-    let front : size (net s) ≡ n = length-take-le n s.rows (omega arith) in
-    record {
-      refuses = add_granted (net s) c.args.operator (omega (arith, front)) (sym c.if-not-is_within.ensures);
-      value = sym front;
-      changes = added_more s.rows s.successors n s.k s.l c.args.operator room masks;
-    }
+    let x : Node = record { figures = c.args.operator; successors = 0 } in
+    let room : n < length s.nodes = omega arith in
+    rw (front_more figures_in s.nodes n x room, front_more successors_in s.nodes n x room) refl

@@ -1,39 +1,22 @@
-use Rattle.std.proofs.Common.{◌≡◌, ℕ, ◌+◌, ◌*◌, ◌≤◌, length, sum_by, sym, ap, ◌∙◌, arith}
-use Rattle.std.proofs.lemmas.List.{length-take-le}
-use Rattle.sets.specs.Sets.{members, upto}
-use Rattle.sets.proofs.Members.{sum_upto_more, sum_upto_none, sum_upto_le, members_few}
-use Rattle.sheet.specs.Nets.{Net, after, size}
+use Rattle.std.proofs.Common.{◌≡◌, ◌≤◌, ◌^◌, length, sum_by, ap, ◌∙◌, arith, rules}
+use Rattle.std.proofs.iter.runs.Made.{chains}
+use Rattle.std.proofs.lemmas.Iterator.{YieldsList-from_slice, YieldsList-from_map}
+use Rattle.std.proofs.lemmas.Iterator.Consumers.{YieldsList-at, fits_by_from_yields_list}
+use Rattle.std.proofs.lemmas.List.{length-map}
+use Rattle.sheet.specs.Nodes.{figures_in}
 use Rattle.sheet.specs.Views.{net}
+use Rattle.sheet.proofs.Fronts.{size_is}
+use Rattle.sheet.proofs.Charges.{edges_from, edges_few, edges_is}
 use Rattle.sheet.proofs.sheets.Sheet.edges.Goals as goal
 
-from : Net → ℕ → ℕ
-from n u = length (members (after n u))
-
-pub loop-u-init : goal.loop-u-init
-unfolding from
-loop-u-init c = sum_upto_none (from (net c.args.self.now))
-
-pub loop-u-preserved : goal.loop-u-preserved
-unfolding from
-loop-u-preserved c =
-    let f = from (net c.args.self.now) in
-    let u = c.loop-u.u in
-    let here : c.size.result ≡ f u = c.size.ensures ∙ ap (λ (m : ℕ). length (members m)) c.successors.ensures in
-    let so_far : c.loop-u.edges ≡ sum_by f (upto u) = c.loop-u.invariant in
-    ap (λ (x : ℕ). x + c.size.result) so_far ∙ ap (λ (x : ℕ). sum_by f (upto u) + x) here ∙ sym (sum_upto_more f u)
-
-pub overflow_add-edges : goal.overflow_add-edges
-unfolding from
-overflow_add-edges c =
+pub sum-requires-clause-fits : goal.sum-requires-clause-fits
+sum-requires-clause-fits c =
     let s = c.args.self.now in
-    let f = from (net s) in
-    let u = c.loop-u.u in
-    let here : c.size.result ≤ 64 = omega (arith, c.size.ensures, members_few c.successors.result) in
-    let so_far : c.loop-u.edges ≤ u * 64 = omega (arith, c.loop-u.invariant, sum_upto_le f 64 u (λ v. members_few (after (net s) v))) in
-    omega arith
+    let nodes = c.nodes.result.now in
+    let few : length nodes ≤ 64 = omega (arith, s.few, size_is s, length-map nodes figures_in, ap length c.nodes.ensures.rows) in
+    fits_by_from_yields_list edges_from nodes c.map.result (2 ^ 64) (YieldsList-from_map _ edges_from (YieldsList-at c.map.ensures.source (YieldsList-from_slice nodes cc)) c.map.ensures.closure (λ x r q k. search rules)) (edges_few nodes few)
 
 pub returns : goal.returns
 returns c =
-    let s = c.args.self.now in
-    let end : c.loop-u.u ≡ size (net s) = omega (arith, length-take-le s.operators s.rows (omega arith)) in
-    c.loop-u.invariant ∙ ap (λ (k : ℕ). sum_by (λ u. length (members (after (net s) u))) (upto k)) end
+    let is : c.sum.result ≡ sum_by edges_from c.nodes.result.now = search (rules, chains) in
+    is ∙ edges_is (net c.args.self.now) c.nodes.result.now c.nodes.ensures.rows c.nodes.ensures.successors

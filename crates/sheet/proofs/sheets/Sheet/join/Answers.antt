@@ -1,44 +1,42 @@
-use Rattle.std.proofs.Common.{◌≡◌, ℕ, Bool, cond, get_or, sym, refl, ap, ◌∙◌, arith, length-set}
-use Rattle.std.proofs.lemmas.List.{length-take-le, get_or-take}
+use Rattle.std.proofs.Common.{◌≡◌, ℕ, Bool, ◌<◌, cond, ltb, get_or, refl, ap, ◌∙◌, arith, length-set}
 use Rattle.std.proofs.lemmas.Bool.{lt-ltb}
-use Rattle.sets.specs.Sets.{has, including}
-use Rattle.sheet.specs.Nets.{size}
-use Rattle.sheet.specs.Views.{net}
-use Rattle.sheet.proofs.Changes.{join_there, join_granted, upward_set, joined_set}
+use Rattle.sets.specs.Sets.{including}
+use Rattle.sheet.specs.declared.nodes.Node.{Node}
+use Rattle.sheet.specs.declared.sheets.Sheet.{Sheet}
+use Rattle.sheet.specs.Nodes.{figures_in, successors_in}
+use Rattle.sheet.proofs.Fronts.{blank_node, after_is, front_set, front_same}
+use Rattle.sheet.proofs.Changes.{upward_set}
 use Rattle.sheet.proofs.sheets.Sheet.join.Goals as goal
 
-pub returns-then-holds : goal.returns-then-holds
-returns-then-holds c =
-    let s = c.args.self.now in
-    let u = c.args.from in
-    let v = c.args.to in
-    let front : size (net s) ≡ s.operators = length-take-le s.operators s.rows (omega arith) in
-    let there = ap (λ (m : ℕ). has m v) (get_or-take s.operators s.successors u 0 (omega arith)) ∙ sym c.if-holds.ensures in
-    record { refuses = join_there (net s) u v (omega (arith, front)) (omega (arith, front)) (omega arith) there; changes = refl }
+-- the node at u, with m for its successors
+abbrev with_mask : Sheet → ℕ → ℕ → Node
+with_mask s u m = record { figures = (get_or s.nodes u blank_node).figures; successors = m }
 
-pub invariant_of-self : goal.invariant_of-self
-invariant_of-self c =
-    let s = c.args.self.now in
-    let u = c.args.from in
-    let v = c.args.to in
-    let is = c.include.ensures ∙ ap (λ (b : Bool). cond b (including (get_or s.successors u 0) v) (get_or s.successors u 0)) (lt-ltb v 64 (omega arith)) in
-    record {
-      few = omega arith;
-      tables = (s.tables.0, length-set s.successors u c.include.result ∙ s.tables.1);
-      modest = s.modest;
-      upward = upward_set s.successors s.operators u v c.include.result (omega arith) (omega arith) (omega arith) is s.upward;
-      devices = s.devices;
-    }
+included : (m v r : ℕ) → v < 64 → r ≡ cond (ltb v 64) (including m v) m → r ≡ including m v
+included m v r near is = is ∙ ap (λ (b : Bool). cond b (including m v) m) (lt-ltb v 64 near)
 
-pub returns : goal.returns
-returns c =
+pub invariant_of-self-clause-table : goal.invariant_of-self-clause-table
+invariant_of-self-clause-table c =
+    let s = c.args.self.now in
+    length-set s.nodes c.args.from (with_mask s c.args.from c.include.result) ∙ s.table
+
+pub invariant_of-self-clause-modest : goal.invariant_of-self-clause-modest
+invariant_of-self-clause-modest c =
+    let s = c.args.self.now in
+    rw (front_same figures_in s.nodes s.operators c.args.from (with_mask s c.args.from c.include.result) blank_node (omega arith) (omega arith) refl) s.modest
+
+pub invariant_of-self-clause-upward : goal.invariant_of-self-clause-upward
+invariant_of-self-clause-upward c =
     let s = c.args.self.now in
     let u = c.args.from in
     let v = c.args.to in
-    let front : size (net s) ≡ s.operators = length-take-le s.operators s.rows (omega arith) in
-    let new = ap (λ (m : ℕ). has m v) (get_or-take s.operators s.successors u 0 (omega arith)) ∙ sym c.if-holds.ensures in
-    let is = c.include.ensures ∙ ap (λ (b : Bool). cond b (including (get_or s.successors u 0) v) (get_or s.successors u 0)) (lt-ltb v 64 (omega arith)) in
-    record {
-      refuses = join_granted (net s) u v (omega (arith, front)) (omega (arith, front)) (omega arith) new;
-      changes = joined_set s.rows s.successors s.operators s.k s.l u v c.include.result (omega arith) is;
-    }
+    upward_set s.nodes s.operators u v (with_mask s u c.include.result) (omega arith) (omega arith) (omega arith) (included (get_or s.nodes u blank_node).successors v c.include.result (omega arith) c.include.ensures) s.upward
+
+pub returns-clause-changes : goal.returns-clause-changes
+returns-clause-changes c =
+    let s = c.args.self.now in
+    let u = c.args.from in
+    let v = c.args.to in
+    let x = with_mask s u c.include.result in
+    let is = included (get_or s.nodes u blank_node).successors v c.include.result (omega arith) c.include.ensures in
+    rw (front_same figures_in s.nodes s.operators u x blank_node (omega arith) (omega arith) refl, front_set successors_in s.nodes s.operators u x (omega arith), is, after_is s u (omega arith)) refl
