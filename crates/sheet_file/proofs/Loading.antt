@@ -1,15 +1,23 @@
 -- Reading a file's bodies entry by entry: the first complaint, and why an edge that is there already does not ascend.
-use Rattle.std.proofs.Common.{◌≡◌, ℕ, zero, suc, ◌+◌, ◌-◌, ◌*◌, ◌<◌, ◌≤◌, Bool, true, false, ◌&&◌, ltb, List, [], ◌∷◌, length, get_or, take, drop, sym, refl, ap, ◌∙◌, subst, inl, inr, arith, length-drop}
+use Rattle.std.proofs.Common.{◌≡◌, ℕ, zero, suc, ◌+◌, ◌-◌, ◌*◌, ◌<◌, ◌≤◌, true, false, List, [], ◌∷◌, length, get_or, take, drop, Option, None, Some, Result, Ok, Err, sym, refl, ap, ◌∙◌, subst, inl, inr, add-one, arith, length-drop}
 use Rattle.std.proofs.lemmas.List.{get_or-drop, take_rest, drop-drop}
 use Rattle.std.proofs.lemmas.Bool.{cases_Bool, cases_eq}
+use Rattle.std.proofs.lemmas.Bool.Decides.{nat_tests}
+use Rattle.std.specs.Simd.{first_chunks}
+use Rattle.refusals.specs.declared.Reason.{Reason}
+use Rattle.refusals.specs.declared.Section.TheVariants as sections
 use Rattle.refusals.specs.declared.Refusal.{Refusal}
+use Rattle.refusals.specs.declared.Refusal.TheVariants.{BodyEntry}
 use Rattle.refusals.specs.Told.{told}
-use Rattle.sets.specs.Sets.{has}
-use Rattle.sheet.specs.Nets.{Net, size, after, Edge, empty}
-use Rattle.sheet.specs.Changes.{first, join_refusal, added, joined}
-use Rattle.sheet_layout.specs.Bodies.{row_at, from, to, ascends, first_wrong, edge_refusal, with_rows, with_edges}
+use Rattle.sheet.specs.declared.operators.Operator.{Operator}
+use Rattle.sheet.specs.Nets.{Net, size, Edge, empty}
+use Rattle.sheet.specs.Changes.{first, added, joined}
+use Rattle.sheet_layout.specs.Bodies.{rows_in, row_at, from, to, ascends, first_wrong, edge_refusal, with_rows, with_edges}
 use Rattle.sheet_layout.specs.Layout.{Before}
-use Rattle.sheet_file.specs.Loading.{edge_reason, Listing}
+use Rattle.sheet_file.specs.Loading.{Listing}
+use Rattle.sheet_file.specs.declared.bodies.Pair.{Pair}
+use Rattle.sheet_file.specs.Pairs.{comes_after, pair_outcome}
+use Rattle.sheet_layout.proofs.Places.{part_row}
 use Rattle.refusals.proofs.Tellings.{told_something}
 use Rattle.sheet_layout.proofs.Firsts.{first_wrong_more, first_wrong_nothing}
 use Rattle.sheet_layout.proofs.Edges.{with_rows_more, with_edges_more, with_edges_cases, Inside}
@@ -37,13 +45,10 @@ first_wrong_step check n before here =
 -- ---- edges in ascending order
 
 before_trans : (a b c d p q : ℕ) → Before a b c d → Before c d p q → Before a b p q
-before_trans a b c d p q h k = elim h [
-  | inl l ↦ elim k [ inl m ↦ inl (omega arith) | inr m ↦ inl (omega (arith, m.0)) ]
-  | inr l ↦ elim k [ inl m ↦ inl (omega (arith, l.0)) | inr m ↦ inr (l.0 ∙ m.0, omega (arith, l.1, m.1)) ]
-]
+before_trans a b c d p q h k = grind arith
 
 before_itself : (a b : ℕ) → Before a b a b → ⊥
-before_itself a b h = elim h [ inl l ↦ omega arith | inr l ↦ omega (arith, l.1) ]
+before_itself a b h = grind arith
 
 -- an edge further on comes later
 later : (bs : List ℕ) (j k : ℕ) → j < k → ((i : ℕ) → i < suc k → ascends bs i ≡ true) → Before (from bs j) (to bs j) (from bs k) (to bs k)
@@ -67,30 +72,67 @@ there_descends bs i n l there = elim (cases_Bool (ascends bs i)) [
   | inr down ↦ down
 ]
 
--- what joining an edge is refused for is what a file is refused for, where it is the edge i of a body
-pub edge_told : (bs : List ℕ) (i : ℕ) (n : Net) (e : Refusal) → Listing bs i n → told e ≡ join_refusal n (from bs i) (to bs i) → 14 ∷ 2 ∷ i ∷ edge_reason (told e) ∷ [] ≡ edge_refusal (size n) bs i
-edge_told bs i n e l is =
-    ap (λ (ts : List ℕ). 14 ∷ 2 ∷ i ∷ edge_reason ts ∷ []) is
-    ∙ go (ltb (from bs i) (size n) && ltb (to bs i) (size n)) refl (ltb (from bs i) (to bs i)) refl (has (after n (from bs i)) (to bs i)) refl
-  where
-    go : (a : Bool) → (ltb (from bs i) (size n) && ltb (to bs i) (size n)) ≡ a → (b : Bool) → ltb (from bs i) (to bs i) ≡ b → (c : Bool) → has (after n (from bs i)) (to bs i) ≡ c
-        → 14 ∷ 2 ∷ i ∷ edge_reason (join_refusal n (from bs i) (to bs i)) ∷ [] ≡ edge_refusal (size n) bs i
-    go false p b q c r = rw p refl
-    go true p false q c r = rw (p, q) refl
-    go true p true q true r = rw (p, q, r, there_descends bs i n l r) refl
-    go true p true q false r = absurd (told_something e (is ∙ rw (p, q, r) refl))
+-- ---- an edge after the one before it
+
+-- the pair with index i of a body, and the one before it
+abbrev pub pair_at : List ℕ → ℕ → Pair
+pair_at bs i = record { from = from bs i; to = to bs i }
+
+abbrev pub last_at : List ℕ → ℕ → Option Pair
+last_at bs zero = None
+last_at bs (suc i) = Some (pair_at bs i)
+
+comes_ascends : (bs : List ℕ) (i : ℕ) → comes_after (last_at bs i) (pair_at bs i) ≡ ascends bs i
+comes_ascends bs zero = refl
+comes_ascends bs (suc i) = refl
+
+-- what is told where an edge has such an outcome
+abbrev pub tells : ℕ → Result (Unit {0}) Reason → List ℕ
+tells i (Ok x) = []
+tells i (Err r) = told (BodyEntry sections.Edges i r)
+
+pub pair_tells : (n : ℕ) (bs : List ℕ) (i : ℕ) (last : Option Pair) (p : Pair) → last ≡ last_at bs i → p ≡ pair_at bs i → tells i (pair_outcome n last p) ≡ edge_refusal n bs i
+pair_tells n bs i last p before here =
+    let order = comes_ascends bs i in
+    rw (before, here) (grind (arith, nat_tests))
+
+-- an edge that is there already does not come after the last one
+pub there_before : (bs : List ℕ) (i : ℕ) (n : Net) (last : Option Pair) (p : Pair) → Listing bs i n → last ≡ last_at bs i → p ≡ pair_at bs i → Edge n p.from p.to → comes_after last p ≡ false
+there_before bs i n last p l before here there =
+    ap (λ (q : Option Pair). comes_after q p) before ∙ ap (λ (q : Pair). comes_after (last_at bs i) q) here ∙ comes_ascends bs i
+    ∙ there_descends bs i n l (subst (λ (q : Pair). Edge n q.from q.to) here there)
+
+-- the next pair
+pub last_more : (bs : List ℕ) (i : ℕ) (p : Pair) → p ≡ pair_at bs i → Some p ≡ last_at bs (i + 1)
+last_more bs i p here = rw add-one (ap (λ (q : Pair). Some q) here)
 
 -- ---- one turn of each loop
 
-pub rows_step : (bs : List ℕ) (v : ℕ) (n m : Net) → n ≡ with_rows bs v empty → m ≡ added n (row_at bs (16 * v)) → m ≡ with_rows bs (v + 1) empty
-rows_step bs v n m before is =
-    let next : v + 1 ≡ suc v = omega arith in
-    is ∙ ap (λ (x : Net). added x (row_at bs (16 * v))) before ∙ sym (ap (λ (k : ℕ). with_rows bs k empty) next ∙ with_rows_more bs v empty)
+-- the chunk of sixteen bytes with index v
+chunk_at : (n : ℕ) (bs : List ℕ) (v : ℕ) (d : List ℕ) → v < n → get_or (first_chunks 16 n bs) v d ≡ take 16 (drop (16 * v) bs)
+chunk_at zero bs v d h = absurd (omega arith)
+chunk_at (suc n) bs zero d h = refl
+chunk_at (suc n) bs (suc v) d h =
+    let place : 16 + 16 * v ≡ 16 * suc v = omega arith in
+    chunk_at n (drop 16 bs) v d (omega arith) ∙ ap (take 16) (drop-drop (16 * v) 16 bs ∙ ap (λ (k : ℕ). drop k bs) place)
 
-pub edges_step : (bs : List ℕ) (i : ℕ) (base n m : Net) → n ≡ with_edges bs i base → m ≡ joined n (from bs i) (to bs i) → m ≡ with_edges bs (i + 1) base
-edges_step bs i base n m before is =
+-- its row
+pub chunk_row : (bs : List ℕ) (rows : List (List ℕ)) (v : ℕ) → rows ≡ first_chunks 16 (rows_in bs) bs → v < rows_in bs → row_at (get_or rows v []) 0 ≡ row_at bs (16 * v)
+chunk_row bs rows v are h =
+    let place : 16 * v + 0 ≡ 16 * v = omega arith in
+    ap (λ (parts : List (List ℕ)). row_at (get_or parts v []) 0) are ∙ ap (λ (part : List ℕ). row_at part 0) (chunk_at (rows_in bs) bs v [] h)
+    ∙ part_row bs (16 * v) 16 0 (omega arith) ∙ ap (row_at bs) place
+
+pub rows_step : (bs : List ℕ) (v : ℕ) (n m : Net) (o : Operator) → n ≡ with_rows bs v empty → o ≡ row_at bs (16 * v) → m ≡ added n o → m ≡ with_rows bs (v + 1) empty
+rows_step bs v n m o before here is =
+    let next : v + 1 ≡ suc v = omega arith in
+    is ∙ ap (added n) here ∙ ap (λ (x : Net). added x (row_at bs (16 * v))) before ∙ sym (ap (λ (k : ℕ). with_rows bs k empty) next ∙ with_rows_more bs v empty)
+
+pub edges_step : (bs : List ℕ) (i : ℕ) (base n m : Net) (p : Pair) → n ≡ with_edges bs i base → p ≡ pair_at bs i → m ≡ joined n p.from p.to → m ≡ with_edges bs (i + 1) base
+edges_step bs i base n m p before here is =
     let next : i + 1 ≡ suc i = omega arith in
-    is ∙ ap (λ (x : Net). joined x (from bs i) (to bs i)) before ∙ sym (ap (λ (k : ℕ). with_edges bs k base) next ∙ with_edges_more bs i base)
+    is ∙ ap (λ (q : Pair). joined n q.from q.to) here ∙ ap (λ (x : Net). joined x (from bs i) (to bs i)) before
+    ∙ sym (ap (λ (k : ℕ). with_edges bs k base) next ∙ with_edges_more bs i base)
 
 -- what is joined so far, to a net without edges
 pub listing_so_far : (bs : List ℕ) (i : ℕ) (base n : Net) → ((u v : ℕ) → Edge base u v → ⊥) → length base.successors ≡ size base → n ≡ with_edges bs i base → first_wrong (edge_refusal (size base) bs) i ≡ [] → Listing bs i n
@@ -103,12 +145,12 @@ listing_so_far bs i base n bare masks is right =
     }
 
 -- the pair at the front of what is left of a body
-pub front_pair : (body left : List ℕ) (i : ℕ) → left ≡ drop (2 * i) body → (get_or left 0 0 ≡ from body i) × (get_or left 1 0 ≡ to body i)
+pub front_pair : (body left : List ℕ) (i : ℕ) → left ≡ drop (2 * i) body → ◌≡◌ {A = Pair} (record { from = get_or left 0 0; to = get_or left 1 0 }) (pair_at body i)
 front_pair body left i is =
-    let at : 2 * i + 0 ≡ 2 * i = omega arith in (
-      ap (λ (xs : List ℕ). get_or xs 0 0) is ∙ get_or-drop (2 * i) body 0 0 ∙ ap (λ (k : ℕ). get_or body k 0) at,
-      ap (λ (xs : List ℕ). get_or xs 1 0) is ∙ get_or-drop (2 * i) body 1 0,
-    )
+    let at : 2 * i + 0 ≡ 2 * i = omega arith in
+    let one : get_or left 0 0 ≡ from body i = ap (λ (xs : List ℕ). get_or xs 0 0) is ∙ get_or-drop (2 * i) body 0 0 ∙ ap (λ (k : ℕ). get_or body k 0) at in
+    let two : get_or left 1 0 ≡ to body i = ap (λ (xs : List ℕ). get_or xs 1 0) is ∙ get_or-drop (2 * i) body 1 0 in
+    rw (one, two) refl
 
 -- and what is left after it
 pub rest_left : (body left : List ℕ) (i : ℕ) → left ≡ drop (2 * i) body → take (length left - 2) (drop 2 left) ≡ drop (2 * (i + 1)) body

@@ -1,3 +1,4 @@
 pub mod Opened
 pub mod Loading
 pub mod Reads
+pub mod Pairs

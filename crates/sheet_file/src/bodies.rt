@@ -1,53 +1,58 @@
 // Judging the bodies of a file, and making the sheet that they stand for.
-ghost use Rattle.std.specs.Prelude.{◌≡◌, ℕ, ◌+◌, ◌*◌, ◌%◌, ◌<◌, ◌≤◌, [], length, IfOk, OnOk, slice_index};
+ghost use Rattle.std.specs.Prelude.{◌≡◌, ℕ, ◌<◌, ◌≤◌, false, length, IfOk, OnOk, slice_index};
 ghost use Rattle.byte_fields.specs.Little.{field};
-ghost use Rattle.refusals.specs.Told.{told, told_reason, outcome};
+ghost use Rattle.refusals.specs.Told.{told, outcome};
 ghost use Rattle.sheet.specs.Nets.{size, empty, Edge};
 ghost use Rattle.sheet.specs.Changes.{changed, added, joined, counted};
 ghost use Rattle.sheet.specs.Views.{net};
-ghost use Rattle.sheet_layout.specs.Bodies.{row_at, from, to, ascends, first_wrong, row_refusal, edge_refusal, counts_refusal, rows_in, edges_in, with_rows, with_edges, bodies_refusal, net_of_bodies};
-ghost use Rattle.sheet_file.specs.Loading.{edge_reason, Listing};
+ghost use Rattle.sheet_layout.specs.Bodies.{row_at, first_wrong, row_refusal, edge_refusal, counts_refusal, rows_in, edges_in, with_rows, with_edges, bodies_refusal, net_of_bodies};
+ghost use Rattle.sheet_file.specs.Loading.{row_told, edge_reason};
+ghost use Rattle.sheet_file.specs.Pairs.{comes_after, pair_outcome};
 
+use byte_fields::read;
 use refusals::{Reason, Refusal};
 use sheet::{Operator, Sheet};
-use sheet_layout::{COUNTS, EDGE_SIZE, EDGES, OPERATOR_SIZE, OPERATORS};
+use sheet_layout::{OPERATOR_SIZE, Section};
+
+// An edge as it stands in a file. Its order, by `from` and then by `to`, is the order of the edges in a file.
+#[derive(Clone, Copy, PartialEq, Eq, PartialOrd, Ord)]
+struct Pair {
+    from: u8,
+    to: u8,
+}
 
 // The figure of four bytes from a place.
-fn figure(body: &[u8], at: usize) -> u32
-    requires { at + 4 ≤ length body.now }
-    ensures { result ≡ field body.now at 4 }
+fn figure(bytes: &[u8; OPERATOR_SIZE], at: usize) -> u32
+    requires { at ≤ 12 }
+    ensures { result ≡ field bytes.now at 4 }
 {
-    byte_fields::read_u32(body, at).unwrap()
+    read::<u32>(bytes, at).unwrap()
 }
 
-// The row of operator `v`.
-fn row(body: &[u8], v: usize) -> Operator
-    requires { 16 * v + 16 ≤ length body.now }
-    ensures { result ≡ row_at body.now (16 * v) }
+// The row of the sixteen bytes of an operator.
+fn row(bytes: &[u8; OPERATOR_SIZE]) -> Operator
+    ensures { result ≡ row_at bytes.now 0 }
 {
-    let at = OPERATOR_SIZE * v;
     Operator {
-        acc: figure(body, at),
-        cpu: figure(body, at + 4),
-        size: figure(body, at + 8),
-        link: figure(body, at + 12),
+        acc: figure(bytes, 0),
+        cpu: figure(bytes, 4),
+        size: figure(bytes, 8),
+        link: figure(bytes, 12),
     }
 }
 
-fn add_row(sheet: &mut Sheet, body: &[u8], v: usize) -> Result<(), Refusal>
-    requires room { size (net sheet.old) < 64 }
-    requires within { 16 * v + 16 ≤ length body.now }
-    ensures refuses { outcome result ≡ row_refusal body.now v }
-    ensures reads { net sheet.new ≡ changed (outcome result) (net sheet.old) (added (net sheet.old) (row_at body.now (16 * v))) }
+// Adds the row with index `v`.
+fn add_row(sheet: &mut Sheet, v: usize, row: Operator) -> Result<(), Refusal>
+    requires { size (net sheet.old) < 64 }
+    ensures refuses { outcome result ≡ row_told v row }
+    ensures reads { net sheet.new ≡ changed (outcome result) (net sheet.old) (added (net sheet.old) row) }
 {
-    match sheet.add(row(body, v)) {
-        Ok(_) => Ok(()),
-        Err(_) => Err(Refusal::BodyEntry {
-            section: OPERATORS,
-            entry: v,
-            reason: Reason::AboveLimit,
-        }),
-    }
+    sheet.add(row).map_err(|_| Refusal::BodyEntry {
+        section: Section::Operators,
+        entry: v,
+        reason: Reason::AboveLimit,
+    })?;
+    Ok(())
 }
 
 // Adds the rows of a body to a sheet that has none.
@@ -57,27 +62,23 @@ fn add_rows(sheet: &mut Sheet, body: &[u8]) -> Result<(), Refusal>
     ensures refuses { outcome result ≡ first_wrong (row_refusal body.now) (rows_in body.now) }
     ensures reads { OnOk result (net sheet.new ≡ with_rows body.now (rows_in body.now) empty) }
 {
-    for v in 0..body.len() / OPERATOR_SIZE {
-        add_row(sheet, body, v)?;
+    let (rows, _) = body.as_chunks::<OPERATOR_SIZE>();
+    for (v, bytes) in rows.iter().enumerate() {
+        add_row(sheet, v, row(bytes))?;
     }
     Ok(())
 }
 
-// Whether the edge `i` of a body comes after the one before it.
-fn is_ascending(body: &[u8], i: usize) -> bool
-    requires { 2 * i + 2 ≤ length body.now }
-    ensures { result ≡ ascends body.now i }
+// Whether an edge comes after the one before it, if there is one.
+fn is_ascending(last: Option<Pair>, pair: Pair) -> bool
+    ensures { result ≡ comes_after last pair }
 {
-    if i == 0 {
-        return true;
-    }
-    let at = EDGE_SIZE * i;
-    body[at - 2] < body[at] || body[at - 2] == body[at] && body[at - 1] < body[at + 1]
+    last.is_none_or(|last| last < pair)
 }
 
-// Why an edge cannot stand in a file, if it cannot be joined for this.
-fn reason(refusal: &Refusal) -> Reason
-    ensures { told_reason result ≡ edge_reason (told refusal.now) }
+// Why an edge cannot stand in a file, if it cannot be joined for this. Both types are of another crate, so that this is no `From`.
+fn reason(refusal: Refusal) -> Reason
+    ensures { result ≡ edge_reason (told refusal) }
 {
     match refusal {
         Refusal::NotUpward => Reason::NotUpward,
@@ -86,34 +87,20 @@ fn reason(refusal: &Refusal) -> Reason
     }
 }
 
-fn join_edge(
-    sheet: &mut Sheet,
-    body: &[u8],
-    i: usize,
-    source: u8,
-    target: u8,
-) -> Result<(), Refusal>
-    requires here { (source ≡ from body.now i) × (target ≡ to body.now i) }
-    requires within { 2 * i + 2 ≤ length body.now }
-    requires listing { Listing body.now i (net sheet.old) }
-    ensures refuses { outcome result ≡ edge_refusal (size (net sheet.old)) body.now i }
-    ensures reads { OnOk result (net sheet.new ≡ joined (net sheet.old) source target) }
+// Joins an edge that comes after the last one; the edges that are there are not after it.
+fn join_edge(sheet: &mut Sheet, last: Option<Pair>, pair: Pair) -> Result<(), Reason>
+    requires rising { Edge (net sheet.old) pair.from pair.to → comes_after last pair ≡ false }
+    ensures refuses { result ≡ pair_outcome (size (net sheet.old)) last pair }
+    ensures joins { OnOk result (net sheet.new ≡ joined (net sheet.old) pair.from pair.to) }
 {
-    if let Err(refusal) = sheet.join(source as usize, target as usize) {
-        return Err(Refusal::BodyEntry {
-            section: EDGES,
-            entry: i,
-            reason: reason(&refusal),
-        });
+    sheet
+        .join(usize::from(pair.from), usize::from(pair.to))
+        .map_err(reason)?;
+    if is_ascending(last, pair) {
+        Ok(())
+    } else {
+        Err(Reason::NotAscending)
     }
-    if !is_ascending(body, i) {
-        return Err(Refusal::BodyEntry {
-            section: EDGES,
-            entry: i,
-            reason: Reason::NotAscending,
-        });
-    }
-    Ok(())
 }
 
 // Joins the edges of a body to a sheet that has none.
@@ -122,11 +109,22 @@ fn join_edges(sheet: &mut Sheet, body: &[u8]) -> Result<(), Refusal>
     ensures refuses { outcome result ≡ first_wrong (edge_refusal (size (net sheet.old)) body.now) (edges_in body.now) }
     ensures reads { OnOk result (net sheet.new ≡ with_edges body.now (edges_in body.now) (net sheet.old)) }
 {
+    // the pattern takes the body apart, and `i` counts the edges that it has taken, for a refusal to name
     let mut i: usize = 0;
+    let mut last = None;
     let mut left = body;
     while let [from, to, rest @ ..] = left {
-        join_edge(sheet, body, i, *from, *to)?;
+        let pair = Pair {
+            from: *from,
+            to: *to,
+        };
+        join_edge(sheet, last, pair).map_err(|reason| Refusal::BodyEntry {
+            section: Section::Edges,
+            entry: i,
+            reason,
+        })?;
         i += 1;
+        last = Some(pair);
         left = rest;
     }
     Ok(())
@@ -138,14 +136,13 @@ fn set_counts(sheet: &mut Sheet, body: &[u8]) -> Result<(), Refusal>
     ensures refuses { outcome result ≡ counts_refusal body.now }
     ensures reads { OnOk result (net sheet.new ≡ counted (net sheet.old) (slice_index body.now 0) (slice_index body.now 1)) }
 {
-    match sheet.count(body[0], body[1]) {
-        Ok(()) => Ok(()),
-        Err(_) => Err(Refusal::BodyEntry {
-            section: COUNTS,
+    sheet
+        .count(body[0], body[1])
+        .map_err(|_| Refusal::BodyEntry {
+            section: Section::Counts,
             entry: 0,
             reason: Reason::CountAboveLimit,
-        }),
-    }
+        })
 }
 
 // The sheet of three bodies, or the first wrong entry of them.

@@ -2,9 +2,10 @@
 ghost use Rattle.std.specs.Prelude.{◌≡◌, ◌+◌, ◌*◌, ◌<◌, ◌≤◌, true, false, length, MatchOption};
 ghost use Rattle.sheet_layout.specs.Contents.{start, head_right, section_of, offset_of, length_of, admits, entry_right};
 
+use byte_fields::read;
 use sheet_layout::{Due, ENTRIES, FIRST_BODY, LETTERS};
 
-// A contents entry: a section, and where its body lies.
+// A contents entry: a section, and where its body lies. The section is a byte as it was read, which may be the number of none.
 #[derive(Clone, Copy)]
 struct Entry {
     section: u8,
@@ -20,6 +21,7 @@ const ENTRY: usize = 5;
 pub(crate) fn is_sheet_file(file: &[u8]) -> bool
     ensures { result ≡ head_right file.now }
 {
+    // each of the four letters at its own place: a rule of the project, by which a reader of this line sees what is compared
     file.len() >= FIRST_BODY
         && file[0] == LETTERS[0]
         && file[1] == LETTERS[1]
@@ -35,16 +37,12 @@ impl Entry {
         ensures { MatchOption result (length file.now < 10 + 5 * index) (λ e. (e.section ≡ section_of file.now index) × (e.offset ≡ offset_of file.now index) × (e.length ≡ length_of file.now index) × (e.length < 65536)) }
     {
         let at = HEAD + ENTRY * index;
-        let Some(offset) = byte_fields::read_u16(file, at + 1) else {
-            return None;
-        };
-        let Some(length) = byte_fields::read_u16(file, at + 3) else {
-            return None;
-        };
+        let offset = read::<u16>(file, at + 1)?;
+        let length = read::<u16>(file, at + 3)?;
         Some(Entry {
             section: file[at],
-            offset: offset as usize,
-            length: length as usize,
+            offset: usize::from(offset),
+            length: usize::from(length),
         })
     }
 
@@ -55,7 +53,7 @@ impl Entry {
         ensures { result ≡ admits due.now self.now.section self.now.offset self.now.length from size }
     {
         let end = from + self.length;
-        self.section == due.section
+        self.section == due.section.number()
             && self.offset == from
             && self.length % due.unit == 0
             && due.least <= self.length
@@ -71,6 +69,7 @@ pub(crate) fn body_end(file: &[u8], index: usize, from: usize, due: &Due) -> Opt
     requires unit { 0 < due.now.unit }
     ensures { MatchOption result (entry_right file.now index due.now ≡ false) (λ end. (entry_right file.now index due.now ≡ true) × (end ≡ from + length_of file.now index) × (end ≤ length file.now) × (end ≤ from + due.now.most)) }
 {
+    // by `let .. else`, a rule of the project for contents entries: where one is not there, or is wrong, no body is opened
     let Some(entry) = Entry::fetch(file, index) else {
         return None;
     };

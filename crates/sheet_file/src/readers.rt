@@ -6,9 +6,7 @@ ghost use Rattle.sheet_file.specs.Opened.{Opened};
 
 use super::contents::{body_end, is_sheet_file};
 use refusals::Refusal;
-use sheet_layout::{
-    COUNTS, COUNTS_SIZE, Due, EDGE_SIZE, EDGES, FIRST_BODY, OPERATOR_SIZE, OPERATORS,
-};
+use sheet_layout::{COUNTS_SIZE, Due, EDGE_SIZE, FIRST_BODY, OPERATOR_SIZE, Section};
 
 // A part of a file, and where in the file it begins.
 #[derive(Clone, Copy)]
@@ -26,7 +24,7 @@ pub struct Reader<'a> {
 }
 
 const OPERATORS_DUE: Due = Due {
-    section: OPERATORS,
+    section: Section::Operators,
     unit: OPERATOR_SIZE,
     least: 0,
     most: 1024,
@@ -34,7 +32,7 @@ const OPERATORS_DUE: Due = Due {
 };
 
 const EDGES_DUE: Due = Due {
-    section: EDGES,
+    section: Section::Edges,
     unit: EDGE_SIZE,
     least: 0,
     most: 4032,
@@ -42,7 +40,7 @@ const EDGES_DUE: Due = Due {
 };
 
 const COUNTS_DUE: Due = Due {
-    section: COUNTS,
+    section: Section::Counts,
     unit: COUNTS_SIZE,
     least: COUNTS_SIZE,
     most: COUNTS_SIZE,
@@ -51,6 +49,7 @@ const COUNTS_DUE: Due = Due {
 
 impl<'a> Reader<'a> {
     // Judges the letters and the contents. No body is opened before all of the contents are right.
+    // The three entries are fetched one by one, since each body begins where the one before it ends, and each has its own refusal.
     pub fn open(file: &'a [u8]) -> Result<Reader<'a>, Refusal>
         ensures refuses { outcome result ≡ contents_refusal file.now }
         ensures opens { IfOk result (λ x. Opened file.now x) }
@@ -83,6 +82,8 @@ impl<'a> Reader<'a> {
             },
         })
     }
+
+    // The reader hands its parts on by a method each, so that a caller names what it takes.
 
     // The whole file.
     pub fn file(&self) -> &'a [u8]

@@ -2,7 +2,8 @@
 --   Inside bs i n   the first i edges of a body begin at operators that n has a set of successors for
 use Rattle.std.proofs.Common.{◌≡◌, ℕ, zero, suc, ◌+◌, ◌-◌, ◌*◌, ◌<◌, Bool, ◌&&◌, ◌||◌, eqb, ◌⊎◌, List, [], ◌∷◌, ◌++◌, length, get_or, set, replicate, sym, refl, ap, ◌∙◌, inl, inr, add-one, arith}
 use Rattle.std.proofs.lemmas.List.{append-nil, append_assoc, length-append, length_push, length-replicate, length-set, get_or_append_left, get_or-append_right, get_or_push, get_or_past, get_or-replicate, get_or-set_same, get_or-set_other, replicate_more}
-use Rattle.std.proofs.lemmas.Bool.{cases_eq, cases_lt, eq-eqb, ne_eqb, eqb-true, and_parts, and_from, or_cases, or_left, or_right}
+use Rattle.std.proofs.lemmas.Bool.{cases_eq, cases_lt, eq-eqb, ne_eqb, or_cases, or_left}
+use Rattle.std.proofs.lemmas.Bool.Decides.{nat_tests}
 use Rattle.sets.specs.Sets.{has, including}
 use Rattle.sets.proofs.Sets.{has_including, or_false}
 use Rattle.sheet.specs.Rules.{blank}
@@ -139,8 +140,8 @@ with_edges_cases bs (suc i) n h u v e =
         | inr x ↦ inr (x.0, omega (arith, x.1), x.2, x.3)
       ]
       | inr new ↦
-          let same = and_parts (eqb u (from bs i)) (eqb v (to bs i)) new in
-          inr (i, omega arith, sym (eqb-true u (from bs i) same.0), sym (eqb-true v (to bs i) same.1))
+          let same : (u ≡ from bs i) × (v ≡ to bs i) = grind (arith, nat_tests) in
+          inr (i, omega arith, sym same.0, sym same.1)
     ]
 
 -- an edge that was there stays
@@ -155,11 +156,8 @@ with_edges_old bs (suc i) n h u v e =
 pub with_edges_new : (bs : List ℕ) (i : ℕ) (n : Net) → Inside bs i n → (j : ℕ) → j < i → Edge (with_edges bs i n) (from bs j) (to bs j)
 with_edges_new bs zero n h j l = absurd (omega arith)
 with_edges_new bs (suc i) n h j l =
-    let old = has (after (with_edges bs i n) (from bs j)) (to bs j) in
-    let new = eqb (from bs j) (from bs i) && eqb (to bs j) (to bs i) in
-    with_edges_step bs i n (h i (omega arith)) (from bs j) (to bs j) ∙ elim (cases_eq j i) [
-      | inl e ↦
-          let both = and_from (eqb (from bs j) (from bs i)) (eqb (to bs j) (to bs i)) (eq-eqb (from bs j) (from bs i) (ap (from bs) e)) (eq-eqb (to bs j) (to bs i) (ap (to bs) e)) in
-          or_right old new both
-      | inr e ↦ or_left old new (with_edges_new bs i n (fewer bs i n h) j (omega arith))
+    let step = with_edges_step bs i n (h i (omega arith)) (from bs j) (to bs j) in
+    elim (cases_eq j i) [
+      | inl e ↦ rw e (with_edges_step bs i n (h i (omega arith)) (from bs i) (to bs i) ∙ grind (arith, nat_tests))
+      | inr e ↦ let old = with_edges_new bs i n (fewer bs i n h) j (omega arith) in step ∙ or_left _ _ old
     ]

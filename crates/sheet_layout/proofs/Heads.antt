@@ -1,11 +1,12 @@
 -- The contents of a file are right exactly if nothing is told of them.
 --   RightEntry f i d   the contents entry with index i is as it is due, but for where its body ends
 --   RightHead f        the letters, the entries, and the end of the last body are right
-use Rattle.std.proofs.Common.{◌≡◌, ℕ, ◌+◌, ◌%◌, ◌<◌, ◌≤◌, Bool, true, ◌&&◌, eqb, leb, List, [], ◌∷◌, length, get_or, take, sym, refl, ap, ◌∙◌, arith}
+use Rattle.std.proofs.Common.{◌≡◌, ℕ, ◌+◌, ◌%◌, ◌<◌, ◌≤◌, true, List, [], ◌∷◌, length, get_or, take, sym, refl, ap, ◌∙◌, arith}
 use Rattle.std.proofs.lemmas.List.{get_or-take}
-use Rattle.std.proofs.lemmas.Bool.{eqb-true, eq-eqb, leb-true, le-leb, and_parts, and_from}
-use Rattle.refusals.specs.declared.Refusal.TheVariants.{NotASheetFile, ContentsEntry}
-use Rattle.refusals.specs.Told.{told}
+use Rattle.std.proofs.lemmas.Bool.{eqb-true}
+use Rattle.std.proofs.lemmas.Bool.Decides.{nat_tests}
+use Rattle.refusals.specs.declared.Refusal.TheVariants.{ContentsEntry}
+use Rattle.refusals.specs.Told.{told, section_number}
 use Rattle.sheet.specs.Changes.{unless}
 use Rattle.sheet_layout.specs.Contents.{letters, section_of, offset_of, length_of, operators_due, edges_due, counts_due, dues, start, begins, ends_well, entry_right, head_refusal, entries_refusal, contents_refusal}
 use Rattle.sheet_layout.specs.declared.Due.{Due}
@@ -22,14 +23,8 @@ first_four (a ∷ b ∷ c ∷ d ∷ f) h = refl
 
 pub begins_letters : (f : List ℕ) → 4 ≤ length f → begins f ≡ true → take 4 f ≡ letters
 begins_letters f h e =
-    let p = and_parts (eqb (get_or f 0 0) 87) (eqb (get_or f 1 0) 69 && (eqb (get_or f 2 0) 70 && eqb (get_or f 3 0) 84)) e in
-    let q = and_parts (eqb (get_or f 1 0) 69) (eqb (get_or f 2 0) 70 && eqb (get_or f 3 0) 84) p.1 in
-    let r = and_parts (eqb (get_or f 2 0) 70) (eqb (get_or f 3 0) 84) q.1 in
-    let a = eqb-true (get_or f 0 0) 87 p.0 in
-    let b = eqb-true (get_or f 1 0) 69 q.0 in
-    let c = eqb-true (get_or f 2 0) 70 r.0 in
-    let d = eqb-true (get_or f 3 0) 84 r.1 in
-    first_four f h ∙ rw (a, b, c, d) refl
+    let four : (get_or f 0 0 ≡ 87) × (get_or f 1 0 ≡ 69) × (get_or f 2 0 ≡ 70) × (get_or f 3 0 ≡ 84) = grind (arith, nat_tests) in
+    first_four f h ∙ rw (four.0, four.1, four.2, four.3) refl
 
 pub letters_begins : (f : List ℕ) → take 4 f ≡ letters → begins f ≡ true
 letters_begins f e =
@@ -39,52 +34,18 @@ letters_begins f e =
 -- ---- an entry
 
 pub record RightEntry (f : List ℕ) (i : ℕ) (d : Due) : Type 0 where
-  pub section : section_of f i ≡ d.section
+  pub section : section_of f i ≡ section_number d.section
   pub offset : offset_of f i ≡ start f i
   pub whole : length_of f i % d.unit ≡ 0
   pub least : d.least ≤ length_of f i
   pub most : length_of f i ≤ d.most
 
 module _ (f : List ℕ) (i : ℕ) (d : Due) where
-  abbrev ends_test : Bool
-  ends_test = ends_well (length f) (start f i + length_of f i) d.last
-
-  abbrev most_test : Bool
-  most_test = leb (length_of f i) d.most && ends_test
-
-  abbrev least_test : Bool
-  least_test = leb d.least (length_of f i) && most_test
-
-  abbrev whole_test : Bool
-  whole_test = eqb (length_of f i % d.unit) 0 && least_test
-
-  abbrev offset_test : Bool
-  offset_test = eqb (offset_of f i) (start f i) && whole_test
-
   pub entry_facts : entry_right f i d ≡ true → RightEntry f i d × (ends_well (length f) (start f i + length_of f i) d.last ≡ true)
-  entry_facts e =
-      let p = and_parts (eqb (section_of f i) d.section) offset_test e in
-      let q = and_parts (eqb (offset_of f i) (start f i)) whole_test p.1 in
-      let r = and_parts (eqb (length_of f i % d.unit) 0) least_test q.1 in
-      let s = and_parts (leb d.least (length_of f i)) most_test r.1 in
-      let t = and_parts (leb (length_of f i) d.most) ends_test s.1 in (
-        record {
-          section = eqb-true (section_of f i) d.section p.0;
-          offset = eqb-true (offset_of f i) (start f i) q.0;
-          whole = eqb-true (length_of f i % d.unit) 0 r.0;
-          least = leb-true d.least (length_of f i) s.0;
-          most = leb-true (length_of f i) d.most t.0;
-        },
-        t.1,
-      )
+  entry_facts e = grind (arith, nat_tests)
 
   pub facts_entry : RightEntry f i d → ends_well (length f) (start f i + length_of f i) d.last ≡ true → entry_right f i d ≡ true
-  facts_entry r e =
-      and_from (eqb (section_of f i) d.section) offset_test (eq-eqb (section_of f i) d.section r.section)
-      (and_from (eqb (offset_of f i) (start f i)) whole_test (eq-eqb (offset_of f i) (start f i) r.offset)
-      (and_from (eqb (length_of f i % d.unit) 0) least_test (eq-eqb (length_of f i % d.unit) 0 r.whole)
-      (and_from (leb d.least (length_of f i)) most_test (le-leb d.least (length_of f i) r.least)
-      (and_from (leb (length_of f i) d.most) ends_test (le-leb (length_of f i) d.most r.most) e))))
+  facts_entry r e = grind (arith, nat_tests)
 
 -- ---- the head and its three entries
 
@@ -97,21 +58,22 @@ pub record RightHead (f : List ℕ) : Type 0 where
   pub counts : RightEntry f 2 counts_due
   pub ends : start f 2 + length_of f 2 ≡ length f
 
+-- a head of which nothing is told
+head_facts : (f : List ℕ) → head_refusal f ≡ [] → (20 ≤ length f) × (begins f ≡ true) × (get_or f 4 0 ≡ 3)
+head_facts f h = grind (arith, nat_tests)
+
 pub contents_right : (f : List ℕ) → contents_refusal f ≡ [] → RightHead f
 contents_right f h =
     let parts = first_nothing (head_refusal f) (entries_refusal f 0 dues) h in
-    let head = unless_nothing (leb 20 (length f) && (begins f && eqb (get_or f 4 0) 3)) NotASheetFile parts.0 in
-    let a = and_parts (leb 20 (length f)) (begins f && eqb (get_or f 4 0) 3) head in
-    let b = and_parts (begins f) (eqb (get_or f 4 0) 3) a.1 in
-    let long = leb-true 20 (length f) a.0 in
+    let head = head_facts f parts.0 in
     let one = first_nothing (unless (entry_right f 0 operators_due) (told (ContentsEntry 0))) (entries_refusal f 1 (edges_due ∷ counts_due ∷ [])) parts.1 in
     let two = first_nothing (unless (entry_right f 1 edges_due) (told (ContentsEntry 1))) (entries_refusal f 2 (counts_due ∷ [])) one.1 in
     let three = first_nothing (unless (entry_right f 2 counts_due) (told (ContentsEntry 2))) [] two.1 in
     let last = entry_facts f 2 counts_due (unless_nothing (entry_right f 2 counts_due) (ContentsEntry 2) three.0) in
     record {
-      long = long;
-      begins = begins_letters f (omega arith) b.0;
-      entries = eqb-true (get_or f 4 0) 3 b.1;
+      long = head.0;
+      begins = begins_letters f (omega arith) head.1;
+      entries = head.2;
       operators = (entry_facts f 0 operators_due (unless_nothing (entry_right f 0 operators_due) (ContentsEntry 0) one.0)).0;
       edges = (entry_facts f 1 edges_due (unless_nothing (entry_right f 1 edges_due) (ContentsEntry 1) two.0)).0;
       counts = last.0;
@@ -120,10 +82,8 @@ contents_right f h =
 
 pub right_contents : (f : List ℕ) → RightHead f → contents_refusal f ≡ []
 right_contents f r =
-    let ends = r.ends in
-    let all : begins f && eqb (get_or f 4 0) 3 ≡ true = and_from (begins f) (eqb (get_or f 4 0) 3) (letters_begins f r.begins) (eq-eqb (get_or f 4 0) 3 r.entries) in
-    let head = and_from (leb 20 (length f)) (begins f && eqb (get_or f 4 0) 3) (le-leb 20 (length f) r.long) all in
-    let one = facts_entry f 0 operators_due r.operators (le-leb (start f 0 + length_of f 0) (length f) (omega arith)) in
-    let two = facts_entry f 1 edges_due r.edges (le-leb (start f 1 + length_of f 1) (length f) (omega arith)) in
-    let three = facts_entry f 2 counts_due r.counts (eq-eqb (start f 2 + length_of f 2) (length f) ends) in
-    rw (head, one, two, three) refl
+    let begins = letters_begins f r.begins in
+    let one = facts_entry f 0 operators_due r.operators (grind (arith, nat_tests)) in
+    let two = facts_entry f 1 edges_due r.edges (grind (arith, nat_tests)) in
+    let three = facts_entry f 2 counts_due r.counts (grind (arith, nat_tests)) in
+    grind (arith, nat_tests)

@@ -68,10 +68,7 @@ two_joined n (u ∷ us) =
 pub bytes_are_pairs : (n : Net) → flat_map two (edge_list n) ≡ edges_bytes n
 bytes_are_pairs n = two_joined n (upto (size n))
 
--- ---- the bytes of the edges from one operator more
-
-pub edges_more : (n : Net) (u : ℕ) → flat_map (pairs_from n) (upto (suc u)) ≡ flat_map (pairs_from n) (upto u) ++ pairs_from n u
-edges_more n u = joined_upto (pairs_from n) u
+-- ---- how many bytes the edges have
 
 pub length_pairs_from : (n : Net) (u : ℕ) → length (pairs_from n u) ≡ 2 * length (members (after n u))
 length_pairs_from n u =

@@ -1,11 +1,24 @@
 -- Reading in a body is reading in the file.
-use Rattle.std.proofs.Common.{◌≡◌, ℕ, ◌+◌, ◌*◌, ◌<◌, ◌≤◌, List, length, get_or, drop, refl, ap, ◌∙◌, arith}
+use Rattle.std.proofs.Common.{◌≡◌, ℕ, ◌+◌, ◌*◌, ◌<◌, ◌≤◌, List, length, get_or, take, drop, refl, ap, ◌∙◌, arith}
 use Rattle.std.proofs.lemmas.List.{length-take-le, length-drop, get_or-take, get_or-drop}
 use Rattle.byte_fields.specs.Little.{field}
 use Rattle.byte_fields.proofs.Little.{field_part}
 use Rattle.sheet_layout.specs.Contents.{length_of, start, body}
 use Rattle.sheet_layout.specs.Bodies.{row_at, from, to}
 use Rattle.sheet_layout.specs.Layout.{pairs, edges_at, edge_from, edge_to}
+
+-- the row in a part of m bytes that begins at a
+pub part_row : (bs : List ℕ) (a m at : ℕ) → at + 16 ≤ m → row_at (take m (drop a bs)) at ≡ row_at bs (a + at)
+part_row bs a m at h =
+    let place : (k : ℕ) → k ≤ 12 → field (take m (drop a bs)) (at + k) 4 ≡ field bs (a + at + k) 4
+    = λ k l.
+    let same : a + (at + k) ≡ a + at + k = omega arith in
+    field_part bs a (at + k) 4 m (omega arith) ∙ ap (λ (x : ℕ). field bs x 4) same in
+    let acc = field_part bs a at 4 m (omega arith) in
+    let cpu = place 4 (omega arith) in
+    let size = place 8 (omega arith) in
+    let link = place 12 (omega arith) in
+    rw (acc, cpu, size, link) refl
 
 module _ (f : List ℕ) (i : ℕ) where
   -- a body that ends within the file is as long as its entry says
@@ -16,16 +29,7 @@ module _ (f : List ℕ) (i : ℕ) where
   body_at k h = get_or-take (length_of f i) (drop (start f i) f) k 0 h ∙ get_or-drop (start f i) f k 0
 
   pub body_row : (at : ℕ) → at + 16 ≤ length_of f i → row_at (body f i) at ≡ row_at f (start f i + at)
-  body_row at h =
-      let place : (k : ℕ) → k ≤ 12 → field (body f i) (at + k) 4 ≡ field f (start f i + at + k) 4
-      = λ k l.
-      let same : start f i + (at + k) ≡ start f i + at + k = omega arith in
-      field_part f (start f i) (at + k) 4 (length_of f i) (omega arith) ∙ ap (λ (x : ℕ). field f x 4) same in
-      let acc = field_part f (start f i) at 4 (length_of f i) (omega arith) in
-      let cpu = place 4 (omega arith) in
-      let size = place 8 (omega arith) in
-      let link = place 12 (omega arith) in
-      rw (acc, cpu, size, link) refl
+  body_row at h = part_row f (start f i) (length_of f i) at h
 
 -- the bodies of a file whose first holds s rows
 module _ (f : List ℕ) (s : ℕ) (rows : length_of f 0 ≡ 16 * s) where

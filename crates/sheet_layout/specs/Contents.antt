@@ -7,8 +7,9 @@
 --   entries_refusal    what is told of the first wrong contents entry, from the index i on
 use Rattle.std.specs.Prelude.{ℕ, zero, suc, ◌+◌, ◌*◌, ◌%◌, Bool, true, false, cond, ◌&&◌, List, [], ◌∷◌, length, take, drop, ◌==◌, nat_le, slice_index}
 use Rattle.byte_fields.specs.Little.{field}
+use Rattle.refusals.specs.declared.Section.TheVariants as sections
 use Rattle.refusals.specs.declared.Refusal.TheVariants.{NotASheetFile, ContentsEntry}
-use Rattle.refusals.specs.Told.{told}
+use Rattle.refusals.specs.Told.{told, section_number}
 use Rattle.sheet.specs.Changes.{unless, first}
 use Rattle.sheet_layout.specs.declared.Due.{Due}
 
@@ -29,13 +30,13 @@ abbrev pub length_of : List ℕ → ℕ → ℕ
 length_of f i = field f (8 + 5 * i) 2
 
 abbrev pub operators_due : Due
-operators_due = record { section = 1; unit = 16; least = 0; most = 1024; last = false }
+operators_due = record { section = sections.Operators; unit = 16; least = 0; most = 1024; last = false }
 
 abbrev pub edges_due : Due
-edges_due = record { section = 2; unit = 2; least = 0; most = 4032; last = false }
+edges_due = record { section = sections.Edges; unit = 2; least = 0; most = 4032; last = false }
 
 abbrev pub counts_due : Due
-counts_due = record { section = 3; unit = 2; least = 2; most = 2; last = true }
+counts_due = record { section = sections.Counts; unit = 2; least = 2; most = 2; last = true }
 
 abbrev pub dues : List Due
 dues = operators_due ∷ edges_due ∷ counts_due ∷ []
@@ -64,7 +65,7 @@ ends_well n end last = cond last (end == n) (nat_le end n)
 -- an entry is as it is due, its body being due at the place from in a file of n bytes
 abbrev pub admits : Due → ℕ → ℕ → ℕ → ℕ → ℕ → Bool
 admits d section offset len from n =
-    (section == d.section)
+    (section == section_number d.section)
     && (offset == from
     && (len % d.unit == 0
     && (nat_le d.least len

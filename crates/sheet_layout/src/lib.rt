@@ -3,6 +3,8 @@
 
 ghost use Rattle.sheet_layout.specs.Laws.{LawsStand};
 
+pub use refusals::Section;
+
 // What a sheet file begins with, and how many contents entries it has.
 pub const LETTERS: [u8; 4] = *b"WEFT";
 
@@ -11,13 +13,7 @@ pub const ENTRIES: u8 = 3;
 // Where the first body lies.
 pub const FIRST_BODY: usize = 20;
 
-// The sections, and the sizes of an entry in their bodies.
-pub const OPERATORS: u8 = 1;
-
-pub const EDGES: u8 = 2;
-
-pub const COUNTS: u8 = 3;
-
+// The sizes of an entry in the bodies of the sections.
 pub const OPERATOR_SIZE: usize = 16;
 
 pub const EDGE_SIZE: usize = 2;
@@ -27,7 +23,7 @@ pub const COUNTS_SIZE: usize = 2;
 // What is due of a contents entry: its section, the size of an entry of its body, how long the body may be, and whether it is the last.
 #[derive(Drop)]
 pub struct Due {
-    pub section: u8,
+    pub section: Section,
     pub unit: usize,
     pub least: usize,
     pub most: usize,
@@ -35,8 +31,6 @@ pub struct Due {
 }
 
 // A file is accepted exactly if it is laid out by the rules, it then says one sheet, and every sheet has a file.
-pub fn laws_stand() -> u8
+pub fn laws_stand()
     ensures { LawsStand }
-{
-    0
-}
+{}

@@ -1,14 +1,11 @@
 // Each refusal of a file, from a good file with one or two bytes changed.
 use super::samples::{DIAMOND, EMPTY};
-use refusals::{Reason, Refusal};
+use refusals::{Reason, Refusal, Section};
 use sheet_file::load;
 
 // Why a file is refused.
 pub(crate) fn refusal(file: &[u8]) -> Option<Refusal> {
-    match load(file) {
-        Ok(_) => None,
-        Err(e) => Some(e),
-    }
+    load(file).err()
 }
 
 // The diamond with the byte at a place changed, and with the bytes at two places changed.
@@ -29,7 +26,7 @@ fn contents(index: u8) -> Option<Refusal> {
     Some(Refusal::ContentsEntry(index))
 }
 
-fn body(section: u8, entry: usize, reason: Reason) -> Option<Refusal> {
+fn body(section: Section, entry: usize, reason: Reason) -> Option<Refusal> {
     Some(Refusal::BodyEntry {
         section,
         entry,
@@ -129,10 +126,16 @@ fn rows_of_figures(rt: HostRuntime) {
         for figure in 0..4 {
             let at = 20 + 16 * v + 4 * figure;
             assert_eq!(rt; limit_figure(at, 0x40), None);
-            assert_eq!(rt; limit_figure(at, 0x41), body(1, v, Reason::AboveLimit));
+            assert_eq!(rt;
+                limit_figure(at, 0x41),
+                body(Section::Operators, v, Reason::AboveLimit)
+            );
         }
     }
-    assert_eq!(rt; damaged(23, 1), body(1, 0, Reason::AboveLimit));
+    assert_eq!(rt;
+        damaged(23, 1),
+        body(Section::Operators, 0, Reason::AboveLimit)
+    );
 }
 
 fn limit_figure(at: usize, low: u8) -> Option<Refusal> {
@@ -148,37 +151,67 @@ fn limit_figure(at: usize, low: u8) -> Option<Refusal> {
 #[test]
 fn pairs_of_operators(rt: HostRuntime) {
     // the first pair stands at 84
-    assert_eq!(rt; twice_damaged(84, 2, 85, 1), body(2, 0, Reason::NotUpward));
-    assert_eq!(rt; twice_damaged(84, 1, 85, 1), body(2, 0, Reason::NotUpward));
-    assert_eq!(rt; twice_damaged(84, 4, 85, 4), body(2, 0, Reason::NoOperator));
-    assert_eq!(rt; damaged(85, 4), body(2, 0, Reason::NoOperator));
+    assert_eq!(rt;
+        twice_damaged(84, 2, 85, 1),
+        body(Section::Edges, 0, Reason::NotUpward)
+    );
+    assert_eq!(rt;
+        twice_damaged(84, 1, 85, 1),
+        body(Section::Edges, 0, Reason::NotUpward)
+    );
+    assert_eq!(rt;
+        twice_damaged(84, 4, 85, 4),
+        body(Section::Edges, 0, Reason::NoOperator)
+    );
+    assert_eq!(rt; damaged(85, 4), body(Section::Edges, 0, Reason::NoOperator));
     assert_eq!(rt;
         twice_damaged(85, 2, 87, 1),
-        body(2, 1, Reason::NotAscending)
+        body(Section::Edges, 1, Reason::NotAscending)
     );
-    assert_eq!(rt; damaged(87, 1), body(2, 1, Reason::NotAscending));
+    assert_eq!(rt;
+        damaged(87, 1),
+        body(Section::Edges, 1, Reason::NotAscending)
+    );
     assert_eq!(rt; twice_damaged(88, 0, 89, 3), None);
-    assert_eq!(rt; damaged(91, 4), body(2, 3, Reason::NoOperator));
-    assert_eq!(rt; damaged(90, 3), body(2, 3, Reason::NotUpward));
-    assert_eq!(rt; damaged(90, 1), body(2, 3, Reason::NotAscending));
+    assert_eq!(rt; damaged(91, 4), body(Section::Edges, 3, Reason::NoOperator));
+    assert_eq!(rt; damaged(90, 3), body(Section::Edges, 3, Reason::NotUpward));
+    assert_eq!(rt;
+        damaged(90, 1),
+        body(Section::Edges, 3, Reason::NotAscending)
+    );
     assert_eq!(rt;
         twice_damaged(90, 0, 91, 3),
-        body(2, 3, Reason::NotAscending)
+        body(Section::Edges, 3, Reason::NotAscending)
     );
 }
 
 #[test]
 fn checks_of_one_pair_in_their_order(rt: HostRuntime) {
-    assert_eq!(rt; twice_damaged(90, 0, 91, 9), body(2, 3, Reason::NoOperator));
-    assert_eq!(rt; twice_damaged(86, 0, 87, 0), body(2, 1, Reason::NotUpward));
-    assert_eq!(rt; twice_damaged(90, 9, 91, 0), body(2, 3, Reason::NoOperator));
+    assert_eq!(rt;
+        twice_damaged(90, 0, 91, 9),
+        body(Section::Edges, 3, Reason::NoOperator)
+    );
+    assert_eq!(rt;
+        twice_damaged(86, 0, 87, 0),
+        body(Section::Edges, 1, Reason::NotUpward)
+    );
+    assert_eq!(rt;
+        twice_damaged(90, 9, 91, 0),
+        body(Section::Edges, 3, Reason::NoOperator)
+    );
 }
 
 #[test]
 fn counts_of_devices(rt: HostRuntime) {
     assert_eq!(rt; twice_damaged(92, 8, 93, 8), None);
-    assert_eq!(rt; damaged(92, 9), body(3, 0, Reason::CountAboveLimit));
-    assert_eq!(rt; damaged(93, 9), body(3, 0, Reason::CountAboveLimit));
+    assert_eq!(rt;
+        damaged(92, 9),
+        body(Section::Counts, 0, Reason::CountAboveLimit)
+    );
+    assert_eq!(rt;
+        damaged(93, 9),
+        body(Section::Counts, 0, Reason::CountAboveLimit)
+    );
 }
 
 #[test]
@@ -187,11 +220,20 @@ fn the_first_of_two_faults_is_told(rt: HostRuntime) {
     assert_eq!(rt; twice_damaged(4, 0, 84, 9), Some(Refusal::NotASheetFile));
     assert_eq!(rt; twice_damaged(15, 9, 5, 9), contents(0));
     assert_eq!(rt; twice_damaged(15, 9, 23, 9), contents(2));
-    assert_eq!(rt; twice_damaged(23, 9, 84, 9), body(1, 0, Reason::AboveLimit));
-    assert_eq!(rt; twice_damaged(84, 9, 92, 9), body(2, 0, Reason::NoOperator));
-    assert_eq!(rt; twice_damaged(71, 9, 39, 9), body(1, 1, Reason::AboveLimit));
+    assert_eq!(rt;
+        twice_damaged(23, 9, 84, 9),
+        body(Section::Operators, 0, Reason::AboveLimit)
+    );
+    assert_eq!(rt;
+        twice_damaged(84, 9, 92, 9),
+        body(Section::Edges, 0, Reason::NoOperator)
+    );
+    assert_eq!(rt;
+        twice_damaged(71, 9, 39, 9),
+        body(Section::Operators, 1, Reason::AboveLimit)
+    );
     assert_eq!(rt;
         twice_damaged(90, 9, 87, 1),
-        body(2, 1, Reason::NotAscending)
+        body(Section::Edges, 1, Reason::NotAscending)
     );
 }

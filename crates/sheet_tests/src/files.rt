@@ -1,65 +1,59 @@
 // Files at the limits of their sections, laid out byte by byte.
+ghost use Rattle.std.specs.Prelude.{◌≤◌};
+
 use super::faults::refusal;
 use super::samples::DIAMOND;
-use refusals::Refusal;
+use refusals::{Refusal, Section};
+use sheet::Counts;
 use sheet_file::{Reader, load};
 use std::test::Fail;
 
 const ROOM: usize = 5200;
 
-fn put(file: &mut [u8], at: usize, byte: usize) {
-    if at < file.len() {
-        file[at] = (byte & 0xff) as u8;
-    }
-}
-
 // A contents entry.
-fn put_entry(file: &mut [u8], at: usize, section: usize, offset: usize, length: usize) {
-    put(file, at, section);
-    put(file, at.wrapping_add(1), offset);
-    put(file, at.wrapping_add(2), offset >> 8);
-    put(file, at.wrapping_add(3), length);
-    put(file, at.wrapping_add(4), length >> 8);
+fn put_entry(file: &mut [u8; ROOM], at: usize, section: Section, offset: u16, length: u16)
+    requires { at ≤ 15 }
+{
+    let [a, b] = offset.to_le_bytes();
+    let [c, d] = length.to_le_bytes();
+    file[at..at + 5].copy_from_slice(&[section.number(), a, b, c, d]);
 }
 
-// All pairs of the first 64 operators, ascending, from a place on.
-fn put_pairs(file: &mut [u8], from: usize) {
-    let mut at = from;
-    for u in 0..64usize {
-        for v in u + 1..64 {
-            put(file, at, u);
-            put(file, at.wrapping_add(1), v);
-            at = at.wrapping_add(2);
-        }
+// All pairs of the first 64 operators, ascending, as far as the place takes them.
+fn put_pairs(place: &mut [u8]) {
+    let pairs = (0u8..64).flat_map(|u| (u + 1..64).map(move |v| [u, v]));
+    for (bytes, pair) in place.chunks_exact_mut(2).zip(pairs) {
+        bytes.copy_from_slice(&pair);
     }
 }
 
 // A file of so many operators without figures, with so many edges of the network that has all of them; its length.
-fn lay_out(file: &mut [u8], operators: u16, edges: u16) -> usize {
-    let rows = 16 * operators as usize;
-    let pairs = 2 * edges as usize;
-    put(file, 0, 0x57);
-    put(file, 1, 0x45);
-    put(file, 2, 0x46);
-    put(file, 3, 0x54);
-    put(file, 4, 3);
-    put_entry(file, 5, 1, 20, rows);
-    put_entry(file, 10, 2, 20 + rows, pairs);
-    put_entry(file, 15, 3, 20 + rows + pairs, 2);
-    put_pairs(file, 20 + rows);
-    put(file, 20 + rows + pairs, 8);
-    put(file, 21 + rows + pairs, 8);
-    22 + rows + pairs
+fn lay_out(file: &mut [u8; ROOM], operators: u16, edges: u16) -> usize
+    requires { (operators ≤ 65) × (edges ≤ 2017) }
+    ensures { result ≤ 5096 }
+{
+    let rows = 16 * operators;
+    let pairs = 2 * edges;
+    let edges_at = 20 + rows;
+    let counts_at = edges_at + pairs;
+    file[..4].copy_from_slice(b"WEFT");
+    file[4] = 3;
+    put_entry(file, 5, Section::Operators, 20, rows);
+    put_entry(file, 10, Section::Edges, edges_at, pairs);
+    put_entry(file, 15, Section::Counts, counts_at, 2);
+    let counts = usize::from(counts_at);
+    put_pairs(&mut file[usize::from(edges_at)..]);
+    file[counts..counts + 2].copy_from_slice(&[8, 8]);
+    counts + 2
 }
 
 // What such a file is refused for.
-fn laid_out(operators: u16, edges: u16) -> Option<Refusal> {
+fn laid_out(operators: u16, edges: u16) -> Option<Refusal>
+    requires { (operators ≤ 65) × (edges ≤ 2017) }
+{
     let mut file = [0; ROOM];
     let length = lay_out(&mut file, operators, edges);
-    if length > ROOM {
-        return None;
-    }
-    refusal(&file[0..length])
+    refusal(&file[..length])
 }
 
 #[test]
@@ -86,7 +80,7 @@ fn the_fullest_sheet_is_read_whole(rt: HostRuntime) -> Result<(), Fail> {
     assert_eq!(rt; sheet.edges(), 2016);
     assert_eq!(rt; sheet.successors(0), u64::MAX - 1);
     assert_eq!(rt; sheet.predecessors(63), u64::MAX >> 1);
-    assert_eq!(rt; sheet.counts(), (8, 8));
+    assert_eq!(rt; sheet.counts(), Counts { k: 8, l: 8 });
     Ok(())
 }
 

@@ -1,6 +1,6 @@
 // Building and changing a sheet at its limits, and the figures of stages.
 use refusals::Refusal;
-use sheet::{Operator, Sheet, StageFigures};
+use sheet::{Counts, Operator, Sheet, StageFigures};
 use std::test::Fail;
 
 fn operator(acc: u32, cpu: u32, size: u32, link: u32) -> Operator {
@@ -19,14 +19,12 @@ fn blank() -> Operator {
 // The diamond: edges 0 to 1, 0 to 2, 1 to 3 and 2 to 3.
 fn diamond() -> Result<Sheet, Refusal> {
     let mut sheet = Sheet::new();
-    sheet.add(operator(2, 6, 1, 1))?;
-    sheet.add(operator(4, 8, 2, 1))?;
-    sheet.add(operator(3, 9, 2, 1))?;
-    sheet.add(operator(2, 5, 1, 1))?;
-    sheet.join(0, 1)?;
-    sheet.join(0, 2)?;
-    sheet.join(1, 3)?;
-    sheet.join(2, 3)?;
+    for (acc, cpu, size) in [(2, 6, 1), (4, 8, 2), (3, 9, 2), (2, 5, 1)] {
+        sheet.add(operator(acc, cpu, size, 1))?;
+    }
+    for (from, to) in [(0, 1), (0, 2), (1, 3), (2, 3)] {
+        sheet.join(from, to)?;
+    }
     Ok(sheet)
 }
 
@@ -87,13 +85,6 @@ fn joins_in_the_order_of_their_checks(rt: HostRuntime) -> Result<(), Fail> {
     Ok(())
 }
 
-fn row(sheet: &Sheet, v: usize) -> Option<[u32; 4]> {
-    match sheet.row(v) {
-        Some(o) => Some([o.acc, o.cpu, o.size, o.link]),
-        None => None,
-    }
-}
-
 #[test]
 fn retimes_one_row(rt: HostRuntime) -> Result<(), Fail> {
     let mut sheet = diamond()?;
@@ -105,11 +96,11 @@ fn retimes_one_row(rt: HostRuntime) -> Result<(), Fail> {
         sheet.retime(3, &operator(0, 0, 1_000_001, 0)),
         Err(Refusal::AboveLimit)
     );
-    assert_eq!(rt; row(&sheet, 3), Some([2, 5, 1, 1]));
+    assert_eq!(rt; sheet.row(3), Some(&operator(2, 5, 1, 1)));
     assert_eq!(rt; sheet.retime(3, &operator(7, 1_000_000, 9, 10)), Ok(()));
-    assert_eq!(rt; row(&sheet, 3), Some([7, 1_000_000, 9, 10]));
-    assert_eq!(rt; row(&sheet, 2), Some([3, 9, 2, 1]));
-    assert_eq!(rt; row(&sheet, 4), None);
+    assert_eq!(rt; sheet.row(3), Some(&operator(7, 1_000_000, 9, 10)));
+    assert_eq!(rt; sheet.row(2), Some(&operator(3, 9, 2, 1)));
+    assert_eq!(rt; sheet.row(4), None);
     Ok(())
 }
 
@@ -119,10 +110,11 @@ fn counts_to_eight(rt: HostRuntime) -> Result<(), Fail> {
     assert_eq!(rt; sheet.count(8, 8), Ok(()));
     assert_eq!(rt; sheet.count(9, 0), Err(Refusal::CountAboveLimit));
     assert_eq!(rt; sheet.count(0, 9), Err(Refusal::CountAboveLimit));
-    assert_eq!(rt; sheet.counts(), (8, 8));
+    assert_eq!(rt; sheet.counts(), Counts { k: 8, l: 8 });
     Ok(())
 }
 
+// The five sums without the mask, to lay beside five numbers.
 fn sums(f: StageFigures) -> [u32; 5] {
     [f.acc, f.cpu, f.size, f.incoming, f.outgoing]
 }

@@ -5,4 +5,7 @@ use Rattle.sheet_layout.specs.Bodies.{first_wrong, row_refusal, with_rows}
 use Rattle.sheet_file.proofs.bodies.add_rows.Given as goal
 
 abbrev pub invariant-loop-v : goal.invariant-loop-v
-invariant-loop-v l = (net l.sheet ≡ with_rows l.body l.v empty) × (first_wrong (row_refusal l.body) l.v ≡ [])
+invariant-loop-v l = record {
+  reads : net l.sheet ≡ with_rows l.body l.v empty;
+  right : first_wrong (row_refusal l.body) l.v ≡ [];
+}
