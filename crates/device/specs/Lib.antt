@@ -1,3 +1,5 @@
 pub mod Limits
 pub mod Loads
 pub mod Views
+pub mod Spelled
+pub mod WhichKinds

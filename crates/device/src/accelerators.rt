@@ -4,7 +4,7 @@ ghost use Rattle.refusals.specs.Told.{told, outcome};
 ghost use Rattle.sheet.specs.Changes.{unless};
 ghost use Rattle.device.specs.Limits.{most_limit};
 ghost use Rattle.device.specs.Loads.{accelerated};
-ghost use Rattle.std.proofs.Common.{rules, arith};
+ghost use Rattle.std.proofs.Common.{rules};
 
 use super::{Kind, Load};
 use refusals::Refusal;
@@ -13,7 +13,7 @@ use sheet::StageFigures;
 pub const MOST_LIMIT: u32 = 1_000_000_000;
 
 // An accelerator with memory for stages up to a size.
-#[derive(Clone, Copy)]
+#[derive(Clone, Copy, PartialEq, Eq, Debug)]
 pub struct Accelerator {
     limit: u32,
     ghost within: { limit ≤ most_limit },
@@ -40,7 +40,7 @@ impl Accelerator {
 impl Kind for Accelerator {
     ghost meaning = { λ a f. accelerated a.limit f };
 
-    ghost bounded = { first_of (Prim.search rules, Prim.grind (arith, Self.row.coded.inj)) };
+    ghost bounded = { Prim.search rules };
 
     fn load(&self, figures: &StageFigures) -> Option<Load> {
         if figures.size > self.limit {

@@ -5,7 +5,7 @@ use super::{Kind, Load};
 use sheet::StageFigures;
 
 // A processor, on which every stage fits.
-#[derive(Clone, Copy)]
+#[derive(Clone, Copy, PartialEq, Eq, Debug)]
 pub struct Processor;
 
 impl Kind for Processor {

@@ -1,3 +1,4 @@
 pub mod Rules
 pub mod Scales
 pub mod Larger
+pub mod Spelled

@@ -30,6 +30,6 @@ impl Scale for Line {
     }
 
     fn join(&self, rating: u64, load: &Load) -> u64 {
-        rating.saturating_add(load.ticks as u64)
+        rating.saturating_add(u64::from(load.ticks))
     }
 }

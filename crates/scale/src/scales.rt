@@ -12,7 +12,7 @@ pub trait Scale {
     // its order, its start and its joining
     ghost rules: { Self → Rules Self.Rating };
 
-    // Whether a rating is at most another.
+    // Whether a rating is at most another. A scale may order them by its own state, so this is not their own `<=`.
     fn is_at_most(&self, x: Self::Rating, y: Self::Rating) -> bool
         ensures { result ≡ (rules self.now).at_most x y };
 

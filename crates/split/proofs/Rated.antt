@@ -1,19 +1,17 @@
 -- What a list of stages rates, stage by stage.
-use Rattle.std.proofs.Common.{◌≡◌, ℕ, suc, ◌<◌, true, List, [], ◌∷◌, length, is_some, Some, None, Option, sym, refl, ap, ◌∙◌, arith}
-use Rattle.std.proofs.lemmas.Bool.{both_ways}
+use Rattle.std.proofs.Common.{◌≡◌, ℕ, suc, ◌<◌, true, List, [], ◌∷◌, length, is_some, Some, Option, refl, ap, ◌∙◌, arith, rules}
 use Rattle.sheet.specs.Nets.{Net}
 use Rattle.device.specs.Loads.{PlainLoad}
 use Rattle.scale.specs.Rules.{Rules}
 use Rattle.split.specs.declared.stages.Stage.{Stage}
-use Rattle.split.specs.Splits.{Kinds, asked, stage_at, and_then, rate_from}
+use Rattle.split.specs.Splits.{Kinds, asked, stage_at, rate_from}
 
 pub some_value : {A : Type 0} (o : Option A) → is_some o ≡ true → (x : A) × (o ≡ Some x)
-some_value None h = absurd (both_ways true (sym h) refl)
-some_value (Some x) h = (x, refl)
+some_value o h = search rules
 
 pub rate_step : {R : Type 0} (n : Net) (e : Kinds) (s : Rules R) (r : R) (p : Stage) (ss : List Stage) (x : PlainLoad) → asked n e p.kind p.mask ≡ Some x
     → rate_from n e s r (p ∷ ss) ≡ rate_from n e s (s.joined r x) ss
-rate_step n e s r p ss x h = ap (λ (o : Option PlainLoad). and_then o (λ y. rate_from n e s (s.joined r y) ss)) h
+rate_step n e s r p ss x h = search rules
 
 -- a list of stages that each fit has a rating
 pub lawful_rated : {R : Type 0} (n : Net) (e : Kinds) (s : Rules R) (r : R) (ss : List Stage)

@@ -1,14 +1,16 @@
 -- What is left of a lawful split after a walk over its first stages.
-use Rattle.std.proofs.Common.{◌≡◌, ℕ, zero, suc, ◌+◌, ◌<◌, ◌≤◌, Bool, true, false, cond, eqb, ◌⊎◌, List, [], ◌∷◌, length, is_some, filter, sym, refl, ap, ◌∙◌, subst, inl, inr, arith}
-use Rattle.std.proofs.lemmas.Bool.{or_cases, or_left, or_right, eq-eqb, cond-true}
+use Rattle.std.proofs.Common.{◌≡◌, ℕ, zero, suc, ◌+◌, ◌<◌, ◌≤◌, true, cond, eqb, ◌⊎◌, List, [], ◌∷◌, length, is_some, sym, refl, ap, subst, inl, inr, arith}
+use Rattle.std.specs.Cmp.{both_ways as same_answers}
+use Rattle.std.proofs.lemmas.Bool.Decides.{nat_tests}
+use Rattle.std.proofs.lemmas.Grind.{common_steps}
 use Rattle.sets.specs.Sets.{has, In, either, full}
-use Rattle.sets.proofs.Sets.{has_or, same_sets}
+use Rattle.sets.proofs.Sets.{has_or, has_full, same_sets}
 use Rattle.sheet.specs.Nets.{Net, size, Edge}
 use Rattle.split.specs.declared.stages.Stage.{Stage}
 use Rattle.split.specs.Splits.{Kinds, asked, stage_at, At, used}
 use Rattle.split.specs.declared.walks.Walk.{Walk}
 use Rattle.split.specs.Breaches.{walked}
-use Rattle.split.proofs.Nexts.{Next, in_full, full_in}
+use Rattle.split.proofs.Nexts.{Next}
 
 -- a walk, under a name for the crates above
 abbrev pub Walking : Type 0
@@ -31,33 +33,28 @@ pub record Rest (n : Net) (e : Kinds) (w : Walk) (ss : List Stage) : Type 0 wher
 -- ---- members, places and counts
 
 in_either : (s t v : ℕ) → In v (either s t) → In v s ⊎ In v t
-in_either s t v h = or_cases (has s v) (has t v) (sym (has_or s t v) ∙ h)
+in_either s t v h = grind (arith, has_or)
 
 either_left : (s t v : ℕ) → In v s → In v (either s t)
-either_left s t v h = has_or s t v ∙ or_left (has s v) (has t v) h
+either_left s t v h = grind (arith, has_or)
 
 either_right : (s t v : ℕ) → In v t → In v (either s t)
-either_right s t v h = has_or s t v ∙ or_right (has s v) (has t v) h
+either_right s t v h = grind (arith, has_or)
+
+in_full : (k v : ℕ) → v < k → In v (full k)
+in_full k v h = grind (arith, nat_tests, has_full)
+
+full_in : (k v : ℕ) → In v (full k) → v < k
+full_in k v h = grind (arith, nat_tests, has_full)
 
 same_members : (s t : ℕ) → ((v : ℕ) → In v s → In v t) → ((v : ℕ) → In v t → In v s) → s ≡ t
-same_members s t f g = same_sets s t (λ v. same (has s v) (has t v) (f v) (g v))
-  where
-    same : (a b : Bool) → (a ≡ true → b ≡ true) → (b ≡ true → a ≡ true) → a ≡ b
-    same true b f g = sym (f refl)
-    same false true f g = g refl
-    same false false f g = refl
-
-length_cond : {A : Type 0} (b : Bool) (x : A) (xs : List A) → length (cond b (x ∷ xs) xs) ≡ cond b 1 0 + length xs
-length_cond true x xs = omega arith
-length_cond false x xs = omega arith
+same_members s t f g = same_sets s t (λ v. same_answers (has s v) (has t v) (f v) (g v))
 
 pub used_cons : (k : ℕ) (s : Stage) (ss : List Stage) → used k (s ∷ ss) ≡ cond (eqb s.kind k) 1 0 + used k ss
-used_cons k s ss = length_cond (eqb s.kind k) s (filter (λ t. eqb t.kind k) ss)
+used_cons k s ss = grind (arith, common_steps)
 
 used_some : (k : ℕ) (s : Stage) (ss : List Stage) → s.kind ≡ k → 0 < used k (s ∷ ss)
-used_some k s ss h =
-    let one : cond {A = ℕ} (eqb s.kind k) 1 0 ≡ 1 = cond-true (eqb s.kind k) 1 0 (eq-eqb s.kind k h) in
-    omega (arith, used_cons k s ss)
+used_some k s ss h = grind (arith, nat_tests)
 
 module _ (s : Stage) (ss : List Stage) where
   at_first : (v : ℕ) → In v s.mask → At (s ∷ ss) 0 v

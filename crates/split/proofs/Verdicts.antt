@@ -1,6 +1,7 @@
 -- A list of stages breaks no rule exactly if it is a lawful split.
-use Rattle.std.proofs.Common.{◌≡◌, ℕ, suc, ◌+◌, ◌<◌, ◌≤◌, cond, eqb, List, [], ◌∷◌, inl, inr, arith}
-use Rattle.std.proofs.lemmas.Bool.{both_ways, eq-eqb, eqb-true, cases_eq, cond-true, cond-false, ne_eqb}
+use Rattle.std.proofs.Common.{◌≡◌, ℕ, suc, ◌+◌, ◌<◌, ◌≤◌, cond, eqb, List, [], ◌∷◌, inl, inr, refl, ◌∙◌, arith}
+use Rattle.std.proofs.lemmas.Bool.{both_ways, eq-eqb, eqb-true}
+use Rattle.std.proofs.lemmas.Bool.Decides.{nat_tests}
 use Rattle.sets.specs.Sets.{has, full}
 use Rattle.sets.proofs.Sets.{has_none}
 use Rattle.sheet.specs.Nets.{Net, size}
@@ -10,7 +11,7 @@ use Rattle.split.specs.declared.stages.Breach.TheVariants.{MissingOperator}
 use Rattle.split.specs.Splits.{Kinds, Lawful}
 use Rattle.split.specs.declared.walks.Walk.{Walk}
 use Rattle.split.specs.Breaches.{told_breach, stage_breach, walked, breach_from, nowhere, breach}
-use Rattle.split.proofs.Checks.{unless_nothing, nothing_unless, first_nothing, nothing_first, first_passes, first_stops}
+use Rattle.split.proofs.Checks.{unless_nothing, first_nothing, first_stops}
 use Rattle.split.proofs.Nexts.{no_breach_next, next_no_breach}
 use Rattle.split.proofs.Rests.{Rest, rest_none, none_rest, rest_next, rest_more, more_rest}
 
@@ -18,7 +19,7 @@ use Rattle.split.proofs.Rests.{Rest, rest_none, none_rest, rest_next, rest_more,
 
 module _ (n : Net) (e : Kinds) (w : Walk) (i : ℕ) (s : Stage) (ss : List Stage) where
   pub breach_step : stage_breach n e w i s ≡ [] → breach_from n e w i (s ∷ ss) ≡ breach_from n e (walked w s) (suc i) ss
-  breach_step h = first_passes (stage_breach n e w i s) (breach_from n e (walked w s) (suc i) ss) h
+  breach_step h = rw h refl
 
   pub breach_stops : (b : Breach) → told_breach b ≡ stage_breach n e w i s → told_breach b ≡ breach_from n e w i (s ∷ ss)
   breach_stops b h = first_stops b (stage_breach n e w i s) (breach_from n e (walked w s) (suc i) ss) h
@@ -27,15 +28,7 @@ module _ (n : Net) (e : Kinds) (w : Walk) (i : ℕ) (s : Stage) (ss : List Stage
 
 -- a device more is in use only where one was free
 still_few : (kind k a most : ℕ) → a ≤ most → (kind ≡ k → a < most) → a + cond (eqb kind k) 1 0 ≤ most
-still_few kind k a most few free = elim (cases_eq kind k) [
-  | inl is ↦
-      let one : cond {A = ℕ} (eqb kind k) 1 0 ≡ 1 = cond-true (eqb kind k) 1 0 (eq-eqb kind k is) in
-      let less : a < most = free is in
-      omega arith
-  | inr is ↦
-      let none : cond {A = ℕ} (eqb kind k) 1 0 ≡ 0 = cond-false (eqb kind k) 1 0 (ne_eqb kind k is) in
-      omega arith
-]
+still_few kind k a most few free = grind (arith, nat_tests)
 
 module _ (n : Net) (e : Kinds) where
   pub no_breach_rest : (w : Walk) (i : ℕ) (ss : List Stage) → w.first ≤ n.k → w.second ≤ n.l → breach_from n e w i ss ≡ [] → Rest n e w ss
@@ -50,11 +43,10 @@ module _ (n : Net) (e : Kinds) where
       both.1)
 
   pub rest_no_breach : (w : Walk) (i : ℕ) (ss : List Stage) → Rest n e w ss → breach_from n e w i ss ≡ []
-  rest_no_breach w i [] d =
-      nothing_unless (eqb w.placed (full (size n))) (told_breach MissingOperator) (eq-eqb w.placed (full (size n)) (rest_none n e w d))
+  rest_no_breach w i [] d = rw (eq-eqb w.placed (full (size n)) (rest_none n e w d)) refl
   rest_no_breach w i (s ∷ ss) d =
-      nothing_first (stage_breach n e w i s) (breach_from n e (walked w s) (suc i) ss)
-      (next_no_breach n e w i s (rest_next n e w s ss d)) (rest_no_breach (walked w s) (suc i) ss (rest_more n e w s ss d))
+      breach_step n e w i s ss (next_no_breach n e w i s (rest_next n e w s ss d))
+      ∙ rest_no_breach (walked w s) (suc i) ss (rest_more n e w s ss d)
 
   -- ---- all stages
 

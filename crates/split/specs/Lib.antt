@@ -1,3 +1,4 @@
 pub mod Splits
+pub mod Problems
 pub mod Breaches
 pub mod Judged

@@ -1,98 +1,90 @@
 // A judge of any list of stages.
-ghost use Rattle.std.specs.Prelude.{◌≡◌, ◌<◌, true, false, IfOk, Some};
+ghost use Rattle.std.specs.Prelude.{◌≡◌, false, IfOk, Some};
 ghost use Rattle.sets.specs.Sets.{meeting};
-ghost use Rattle.sheet.specs.Views.{net};
 ghost use Rattle.device.specs.Views.{load_of, answered};
-ghost use Rattle.split.specs.Splits.{kinds, asked};
+ghost use Rattle.device.specs.WhichKinds.{kind_number};
+ghost use Rattle.split.specs.Splits.{asked};
+ghost use Rattle.split.specs.Problems.{net_of, kinds_of};
 ghost use Rattle.split.specs.Breaches.{back, breached, stage_breach};
 ghost use Rattle.split.specs.Judged.{Judged};
 
 use super::walks::Walk;
-use super::{Breach, Stage};
-use device::{Kind, Load};
+use super::{Breach, Problem, Stage};
+use device::{Kind, Load, WhichKind};
 use scale::Scale;
-use sheet::Sheet;
 
-// Whether an edge leads from a set into the operators of earlier stages, none of which it has.
-fn is_back(sheet: &Sheet, mask: u64, placed: u64) -> bool
-    requires { meeting mask placed ≡ false }
-    ensures { result ≡ back (net sheet.now) mask placed }
-{
-    sets::is_meeting(mask, sheet.feeding(placed))
-}
+impl<K: Kind, L: Kind> Problem<'_, K, L> {
+    // Whether an edge leads from a set into the operators of earlier stages, none of which it has.
+    #[tactic(auto, using(crate::proofs::Backs::back_is))]
+    fn is_back(&self, mask: u64, placed: u64) -> bool
+        requires { meeting mask placed ≡ false }
+        ensures { result ≡ back (net_of self.now) mask placed }
+    {
+        sets::is_meeting(mask, self.sheet.feeding(placed))
+    }
 
-// What a stage's kind answers for it.
-fn ask<K: Kind, L: Kind>(sheet: &Sheet, first: &K, second: &L, stage: &Stage) -> Option<Load>
-    ensures { answered result ≡ asked (net sheet.now) (kinds (K.Kind.meaning first.now) (L.Kind.meaning second.now)) stage.now.kind stage.now.mask }
-{
-    let figures = sheet.figures(stage.mask);
-    match stage.kind {
-        1 => first.load(&figures),
-        2 => second.load(&figures),
-        _ => None,
+    // What a device kind answers for a set as a stage.
+    fn ask(&self, kind: WhichKind, mask: u64) -> Option<Load>
+        ensures { answered result ≡ asked (net_of self.now) (kinds_of K.meaning L.meaning self.now) (kind_number kind) mask }
+    {
+        let figures = self.sheet.figures(mask);
+        match kind {
+            WhichKind::First => self.first.load(&figures),
+            WhichKind::Second => self.second.load(&figures),
+        }
     }
-}
 
-// The load of stage `i` after a walk over the stages before it, or the first rule that it breaks.
-fn examine<K: Kind, L: Kind>(
-    sheet: &Sheet,
-    first: &K,
-    second: &L,
-    walk: &Walk,
-    i: usize,
-    stage: &Stage,
-) -> Result<Load, Breach>
-    ensures refuses { breached result ≡ stage_breach (net sheet.now) (kinds (K.Kind.meaning first.now) (L.Kind.meaning second.now)) walk.now i stage.now }
-    ensures loads { IfOk result (λ x. asked (net sheet.now) (kinds (K.Kind.meaning first.now) (L.Kind.meaning second.now)) stage.now.kind stage.now.mask ≡ Some (load_of x)) }
-{
-    if stage.mask == 0 {
-        return Err(Breach::EmptyStage(i));
+    // The kind and the load of stage `i` after a walk over the stages before it, or the first rule that it breaks.
+    fn examine(&self, walk: &Walk, i: usize, stage: &Stage) -> Result<(WhichKind, Load), Breach>
+        ensures refuses { breached result ≡ stage_breach (net_of self.now) (kinds_of K.meaning L.meaning self.now) walk.now i stage.now }
+        ensures kind { IfOk result (λ r. kind_number r.0 ≡ stage.now.kind) }
+        ensures loads { IfOk result (λ r. asked (net_of self.now) (kinds_of K.meaning L.meaning self.now) stage.now.kind stage.now.mask ≡ Some (load_of r.1)) }
+    {
+        if stage.mask == 0 {
+            return Err(Breach::EmptyStage(i));
+        }
+        if !sets::is_inside(stage.mask, self.sheet.all()) {
+            return Err(Breach::ForeignOperator(i));
+        }
+        if sets::is_meeting(stage.mask, walk.placed) {
+            return Err(Breach::RepeatedOperator(i));
+        }
+        if self.is_back(stage.mask, walk.placed) {
+            return Err(Breach::EdgeBack(i));
+        }
+        let Ok(kind) = WhichKind::try_from(stage.kind) else {
+            return Err(Breach::DoesNotFit(i));
+        };
+        let Some(load) = self.ask(kind, stage.mask) else {
+            return Err(Breach::DoesNotFit(i));
+        };
+        let counts = self.sheet.counts();
+        match kind {
+            WhichKind::First if walk.first >= usize::from(counts.k) => {
+                Err(Breach::TooManyOfFirst(i))
+            }
+            WhichKind::Second if walk.second >= usize::from(counts.l) => {
+                Err(Breach::TooManyOfSecond(i))
+            }
+            _ => Ok((kind, load)),
+        }
     }
-    if !sets::is_inside(stage.mask, sheet.all()) {
-        return Err(Breach::ForeignOperator(i));
-    }
-    if sets::is_meeting(stage.mask, walk.placed) {
-        return Err(Breach::RepeatedOperator(i));
-    }
-    if is_back(sheet, stage.mask, walk.placed) {
-        return Err(Breach::EdgeBack(i));
-    }
-    let Some(load) = ask(sheet, first, second, stage) else {
-        return Err(Breach::DoesNotFit(i));
-    };
-    let (k, l) = sheet.counts();
-    if stage.kind == 1 && walk.first >= k as usize {
-        return Err(Breach::TooManyOfFirst(i));
-    }
-    if stage.kind == 2 && walk.second >= l as usize {
-        return Err(Breach::TooManyOfSecond(i));
-    }
-    Ok(load)
-}
 
-// Judges a list of stages handed over by anyone: its rating on a scale if it is a lawful split, or the first rule that it breaks.
-pub fn judge<K: Kind, L: Kind, S: Scale>(
-    sheet: &Sheet,
-    first: &K,
-    second: &L,
-    scale: &S,
-    stages: &[Stage],
-) -> Result<S::Rating, Breach>
-    ensures { Judged (net sheet.now) (kinds (K.Kind.meaning first.now) (L.Kind.meaning second.now)) (S.Scale.rules scale.now) stages.now result }
-{
-    let mut walk = Walk {
-        placed: 0,
-        first: 0,
-        second: 0,
-    };
-    let mut rating = scale.start();
-    for (i, stage) in stages.iter().enumerate() {
-        let load = examine(sheet, first, second, &walk, i, stage)?;
-        rating = scale.join(rating, &load);
-        walk = walk.with(stage);
+    // Judges a list of stages handed over by anyone: its rating on a scale if it is a lawful split, or the first rule that it breaks.
+    #[tactic(auto, using(crate::proofs::Judging::judging))]
+    pub fn judge<S: Scale>(&self, scale: &S, stages: &[Stage]) -> Result<S::Rating, Breach>
+        ensures { Judged (net_of self.now) (kinds_of K.meaning L.meaning self.now) (S.rules scale.now) stages.now result }
+    {
+        let mut walk = Walk::default();
+        let mut rating = scale.start();
+        for (i, stage) in stages.iter().enumerate() {
+            let (kind, load) = self.examine(&walk, i, stage)?;
+            rating = scale.join(rating, &load);
+            walk = walk.with(kind, stage.mask);
+        }
+        if walk.placed != self.sheet.all() {
+            return Err(Breach::MissingOperator);
+        }
+        Ok(rating)
     }
-    if walk.placed != sheet.all() {
-        return Err(Breach::MissingOperator);
-    }
-    Ok(rating)
 }

@@ -2,8 +2,9 @@
 #![tactic(auto)]
 
 mod judges;
+mod problems;
 mod stages;
 mod walks;
 
-pub use judges::judge;
+pub use problems::Problem;
 pub use stages::{Breach, Stage};

@@ -1,14 +1,18 @@
 // What the two kinds answer, and how the scales join and compare, at their limits.
-use device::{Accelerator, Kind, Load, Processor};
+use device::{Accelerator, Kind, Load, Processor, UnknownKind, WhichKind};
 use refusals::Refusal;
 use scale::{Line, Pair, PairRating, Peak, Scale};
 use sheet::{Operator, Sheet};
 use std::test::Fail;
 
-fn plain(load: Option<Load>) -> Option<(u32, u32)> {
-    match load {
-        Some(x) => Some((x.ticks, x.link)),
-        None => None,
+#[test]
+fn numbers_of_the_kinds(rt: HostRuntime) {
+    for (code, kind) in [(1, WhichKind::First), (2, WhichKind::Second)] {
+        assert_eq!(rt; WhichKind::try_from(code), Ok(kind));
+        assert_eq!(rt; u8::from(kind), code);
+    }
+    for code in [0, 3, u8::MAX] {
+        assert_eq!(rt; WhichKind::try_from(code), Err(UnknownKind(code)));
     }
 }
 
@@ -17,10 +21,7 @@ fn limits_of_an_accelerator(rt: HostRuntime) -> Result<(), Fail> {
     assert_eq!(rt; Accelerator::new(0)?.limit(), 0);
     assert_eq!(rt; Accelerator::new(1_000_000_000)?.limit(), 1_000_000_000);
     for limit in [1_000_000_001, u32::MAX] {
-        match Accelerator::new(limit) {
-            Ok(_) => return Err(Fail::new("a limit above a thousand million")),
-            Err(e) => assert_eq!(rt; e, Refusal::AboveLimit),
-        }
+        assert_eq!(rt; Accelerator::new(limit), Err(Refusal::AboveLimit));
     }
     Ok(())
 }
@@ -42,11 +43,17 @@ fn a_size_equal_to_the_limit_fits(rt: HostRuntime) -> Result<(), Fail> {
     })?;
     sheet.join(0, 1)?;
     let later = sheet.figures(0b10);
-    assert_eq!(rt; plain(Accelerator::new(4)?.load(&later)), Some((7, 2)));
-    assert_eq!(rt; plain(Accelerator::new(3)?.load(&later)), None);
-    assert_eq!(rt; plain(Processor.load(&later)), Some((1, 0)));
+    assert_eq!(rt;
+        Accelerator::new(4)?.load(&later),
+        Some(Load { ticks: 7, link: 2 })
+    );
+    assert_eq!(rt; Accelerator::new(3)?.load(&later), None);
+    assert_eq!(rt; Processor.load(&later), Some(Load { ticks: 1, link: 0 }));
     let earlier = sheet.figures(0b01);
-    assert_eq!(rt; plain(Accelerator::new(4)?.load(&earlier)), Some((5, 2)));
+    assert_eq!(rt;
+        Accelerator::new(4)?.load(&earlier),
+        Some(Load { ticks: 5, link: 2 })
+    );
     Ok(())
 }
 
@@ -59,10 +66,7 @@ fn ticks(cpu: u32) -> Result<Load, Refusal> {
         size: 0,
         link: 0,
     })?;
-    match Processor.load(&sheet.figures(1)) {
-        Some(load) => Ok(load),
-        None => Err(Refusal::NoOperator),
-    }
+    Processor.load(&sheet.figures(1)).ok_or(Refusal::NoOperator)
 }
 
 #[test]
