@@ -1,8 +1,8 @@
 -- Which masks a list holds, and ascending lists.
-use Rattle.std.proofs.Common.{◌≡◌, ℕ, zero, suc, ◌+◌, ◌<◌, ◌≤◌, Bool, true, false, cond, List, [], ◌∷◌, ◌++◌, map, length, get_or, filter, sym, refl, ap, ◌∙◌, arith}
-use Rattle.std.specs.List.{AllByRecursion}
-use Rattle.std.proofs.ByRecursion.{All-append, All-weaker, All-get_or, All-map, all_kept_by}
-use Rattle.std.proofs.lemmas.List.{length-append, get_or_append_left}
+use Rattle.std.proofs.Common.{◌≡◌, ℕ, zero, suc, ◌+◌, ◌-◌, ◌<◌, ◌≤◌, Bool, true, false, cond, List, [], ◌∷◌, ◌++◌, map, length, get_or, filter, sym, refl, ap, ◌∙◌, inl, inr, arith}
+use Rattle.std.specs.List.{All, AllPairs}
+use Rattle.std.proofs.lemmas.Bool.{cases_lt}
+use Rattle.std.proofs.lemmas.List.{length-append, length-map, get_or_append_left, get_or-append_right, get_or-map}
 
 abbrev pub Listed : ℕ → List ℕ → Type 0
 Listed m xs = (i : ℕ) × (i < length xs) × (get_or xs i 0 ≡ m)
@@ -15,9 +15,7 @@ listed_right m [] ys h = h
 listed_right m (x ∷ xs) ys h = let t = listed_right m xs ys h in (suc t.0, omega (arith, t.1), t.2)
 
 pub listed_map : (f : ℕ → ℕ) (m : ℕ) (xs : List ℕ) → Listed m xs → Listed (f m) (map f xs)
-listed_map f m [] h = absurd (omega (arith, h.1))
-listed_map f m (x ∷ xs) (zero, h, e) = (zero, omega arith, ap f e)
-listed_map f m (x ∷ xs) (suc i, h, e) = let t = listed_map f m xs (i, omega arith, e) in (suc t.0, omega (arith, t.1), t.2)
+listed_map f m xs h = (h.0, omega (arith, h.1, length-map xs f), get_or-map f xs h.0 0 0 h.1 ∙ ap f h.2)
 
 module _ (p : ℕ → Bool) where
   here : (m x : ℕ) (xs : List ℕ) (b : Bool) → p x ≡ b → p m ≡ true → x ≡ m → Listed m (cond b (x ∷ xs) xs)
@@ -33,37 +31,27 @@ module _ (p : ℕ → Bool) where
   listed_kept m (x ∷ xs) q (zero, h, e) = here m x (filter p xs) (p x) refl q e
   listed_kept m (x ∷ xs) q (suc i, h, e) = there m x (filter p xs) (p x) (listed_kept m xs q (i, omega arith, e))
 
-pub all_both : (P Q : ℕ → Type 0) (xs : List ℕ) → AllByRecursion P xs → AllByRecursion Q xs → AllByRecursion (λ x. P x × Q x) xs
-all_both P Q [] a b = tt
-all_both P Q (x ∷ xs) a b = ((a.0, b.0), all_both P Q xs a.1 b.1)
-
 -- ---- ascending lists
 
 abbrev pub Ascends : List ℕ → Type 0
-Ascends [] = Unit {0}
-Ascends (x ∷ xs) = AllByRecursion (λ y. x < y) xs × Ascends xs
-
-pub ascends_append : (c : ℕ) (xs ys : List ℕ) → Ascends xs → Ascends ys → AllByRecursion (λ x. x < c) xs → AllByRecursion (λ y. c ≤ y) ys → Ascends (xs ++ ys)
-ascends_append c [] ys a b low high = b
-ascends_append c (x ∷ xs) ys a b low high =
-    let below : x < c = low.0 in
-    (All-append (λ y. x < y) xs ys a.0 (All-weaker (λ y. c ≤ y) (λ y. x < y) (λ y h. omega (arith, h, below)) ys high), ascends_append c xs ys a.1 b low.1 high)
+Ascends xs = AllPairs (λ x y. x < y) xs
 
 pub ascends_map : (c : ℕ) (xs : List ℕ) → Ascends xs → Ascends (map (λ m. m + c) xs)
-ascends_map c [] a = tt
-ascends_map c (x ∷ xs) a =
-    (All-map (λ y. x + c < y) (λ (m : ℕ). m + c) xs (All-weaker (λ y. x < y) (λ y. x + c < y + c) (λ y h. omega (arith, h)) xs a.0), ascends_map c xs a.1)
+ascends_map c xs a i j d h l =
+    let near : j < length xs = omega (arith, length-map xs (λ (m : ℕ). m + c)) in
+    let far : i < length xs = omega arith in
+    rw (get_or-map (λ (m : ℕ). m + c) xs i d d far, get_or-map (λ (m : ℕ). m + c) xs j d d near) (omega (arith, a i j d h near))
 
-kept_ascends : (x : ℕ) (xs : List ℕ) (b : Bool) → AllByRecursion (λ y. x < y) xs → Ascends xs → Ascends (cond b (x ∷ xs) xs)
-kept_ascends x xs true h a = (h, a)
-kept_ascends x xs false h a = a
-
-pub ascends_kept : (p : ℕ → Bool) (xs : List ℕ) → Ascends xs → Ascends (filter p xs)
-ascends_kept p [] a = tt
-ascends_kept p (x ∷ xs) a = kept_ascends x (filter p xs) (p x) (all_kept_by p (λ y. x < y) xs a.0) (ascends_kept p xs a.1)
-
-pub ascends_read : (xs : List ℕ) (i j : ℕ) → Ascends xs → i < j → j < length xs → get_or xs i 0 < get_or xs j 0
-ascends_read [] i j a h l = absurd (omega arith)
-ascends_read (x ∷ xs) i zero a h l = absurd (omega arith)
-ascends_read (x ∷ xs) zero (suc j) a h l = All-get_or (λ y. x < y) xs j 0 (omega arith) a.0
-ascends_read (x ∷ xs) (suc i) (suc j) a h l = ascends_read xs i j a.1 (omega arith) (omega arith)
+-- all of the one list are below c, and all of the other are not
+pub ascends_append : (c : ℕ) (xs ys : List ℕ) → Ascends xs → Ascends ys → All (λ x. x < c) xs → All (λ y. c ≤ y) ys → Ascends (xs ++ ys)
+ascends_append c xs ys a b low high i j d h l =
+    let left = λ (k : ℕ) (n : k < length xs). get_or_append_left xs ys d k n in
+    let right = λ (k : ℕ) (f : length xs ≤ k). get_or-append_right xs ys (length xs) k d refl f in
+    let long = length-append xs ys in
+    elim (cases_lt j (length xs)) [
+      | inl n ↦ let m : i < length xs = omega arith in rw (left i m, left j n) (a i j d h n)
+      | inr f ↦ elim (cases_lt i (length xs)) [
+        | inl m ↦ rw (left i m, right j f) (omega (arith, low i d m, high (j - length xs) d (omega arith)))
+        | inr g ↦ rw (right i g, right j f) (b (i - length xs) (j - length xs) d (omega arith) (omega arith))
+      ]
+    ]

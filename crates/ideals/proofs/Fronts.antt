@@ -1,8 +1,9 @@
 -- A table's front while masks are appended to it.
-use Rattle.std.proofs.Common.{◌≡◌, ℕ, ◌+◌, ◌-◌, ◌^◌, ◌<◌, ◌≤◌, Bool, true, false, cond, leb, List, [], ◌∷◌, ◌++◌, map, length, get_or, take, drop, set, Some, None, filter, sym, refl, ap, ◌∙◌, subst, arith}
-use Rattle.std.proofs.lemmas.List.Elements.{filter-append}
-use Rattle.std.proofs.lemmas.List.{append-nil, append_assoc, map-append, length-append, length_push, length-take-le, take-append-drop, take_more, take-take, take_at, take_all, drop_more, drop-drop, drop_at, set_at, get_or_append_left, get_or-take}
-use Rattle.std.proofs.lemmas.Bool.{le-leb, lt-leb, leb-true, leb-false, cond-true, cond-false}
+use Rattle.std.proofs.Common.{◌≡◌, ℕ, ◌+◌, ◌-◌, ◌^◌, ◌<◌, ◌≤◌, List, [], ◌∷◌, ◌++◌, map, length, get_or, take, drop, set, Some, None, filter, Option, sym, refl, ap, ◌∙◌, arith}
+use Rattle.std.specs.List.{All}
+use Rattle.std.proofs.lemmas.List.Elements.{All-from_get_or, All-filter, All-same, All-tail}
+use Rattle.std.proofs.lemmas.List.{append-nil, append_assoc, map-append, length-append, length-drop, length_push, length-take-le, take_at, take_all, drop_more, drop-drop, drop_at, set_at, get_or-take}
+use Rattle.std.proofs.lemmas.Bool.Decides.{nat_tests}
 use Rattle.sets.specs.Sets.{inside}
 use Rattle.ideals.specs.Ideals.{above, over, fitting}
 
@@ -23,113 +24,82 @@ over_over xs ys t h =
     ∙ ap (λ (m : ℕ). drop m t) further)
 
 pub fitting_some : (most n m : ℕ) → Some m ≡ fitting most n → (m ≡ n) × (n ≤ most)
-fitting_some most n m e = go (leb n most) refl e
-  where
-    go : (b : Bool) → leb n most ≡ b → Some m ≡ cond b (Some n) None → (m ≡ n) × (n ≤ most)
-    go true q e = (cc, leb-true n most q)
-    go false q e = let z : ◌≡◌ {A = ℕ} 0 1 = cc in absurd (omega arith)
+fitting_some most n m e = (grind (arith, nat_tests, e), grind (arith, nat_tests, e))
 
 pub fitting_none : (most n : ℕ) → None ≡ fitting most n → most < n
-fitting_none most n e = go (leb n most) refl e
-  where
-    go : (b : Bool) → leb n most ≡ b → None ≡ cond b (Some n) None → most < n
-    go true q e = let z : ◌≡◌ {A = ℕ} 0 1 = cc in absurd (omega arith)
-    go false q e = leb-false n most q
+fitting_none most n e = grind (arith, nat_tests, e)
 
 pub fits : (most n : ℕ) → n ≤ most → Some n ≡ fitting most n
-fits most n h = sym (cond-true (leb n most) (Some n) None (le-leb n most h))
+fits most n h = grind (arith, nat_tests, h)
 
 pub exceeds : (most n : ℕ) → most < n → None ≡ fitting most n
-exceeds most n h = sym (cond-false (leb n most) (Some n) None (lt-leb n most h))
+exceeds most n h = grind (arith, nat_tests, h)
 
-pub above_append : (v p : ℕ) (xs ys : List ℕ) → above v p (xs ++ ys) ≡ above v p xs ++ above v p ys
-above_append v p xs ys =
-    ap (map (λ (m : ℕ). m + 2 ^ v)) (filter-append (inside p) xs ys) ∙ map-append (λ (m : ℕ). m + 2 ^ v) (filter (inside p) xs) (filter (inside p) ys)
+-- what `append_above` answers, and what it leaves in the table
+abbrev pub Appended : List ℕ → ℕ → ℕ → ℕ → Option ℕ → List ℕ → Type 0
+Appended t n v p told table = (told ≡ fitting (length t) (length (take n t ++ above v p (take n t)))) × (table ≡ over (take (length t) (take n t ++ above v p (take n t))) t)
 
-above_yes : (v p m : ℕ) → inside p m ≡ true → above v p (m ∷ []) ≡ (m + 2 ^ v) ∷ []
-above_yes v p m e = ap (λ (b : Bool). map (λ (x : ℕ). x + 2 ^ v) (cond b (m ∷ []) [])) e
+-- after so many free places of the table t: the masks that they were given, and those of the first n that are still to be looked at
+pub record SoFar (t : List ℕ) (n v p : ℕ) (rest : List ℕ) (added : ℕ) (places : List ℕ) : Type 0 where
+  pub given : List ℕ
+  pub parted : filter (inside p) (take n t) ≡ given ++ filter (inside p) rest
+  pub small : All (λ m. m < 2 ^ v) (filter (inside p) rest)
+  pub counts : length (map (λ m. m + 2 ^ v) given) ≡ added
+  pub holds : places ≡ over (map (λ m. m + 2 ^ v) given) (drop n t)
 
-above_no : (v p m : ℕ) → inside p m ≡ false → above v p (m ∷ []) ≡ []
-above_no v p m e = ap (λ (b : Bool). map (λ (x : ℕ). x + 2 ^ v) (cond b (m ∷ []) [])) e
-
--- the masks at the front after i of the first n were looked at
-abbrev pub front : List ℕ → ℕ → ℕ → ℕ → ℕ → List ℕ
-front t n v p i = take n t ++ above v p (take i t)
-
--- the table and its end after i masks
-pub record SoFar (t : List ℕ) (n most v p i end : ℕ) (table : List ℕ) : Type 0 where
-  pub ends : end ≡ length (front t n v p i)
-  pub within : end ≤ most
-  pub holds : table ≡ over (front t n v p i) t
-
-module _ (t : List ℕ) (n most v p : ℕ) (begun : n ≤ most) (fitted : most ≤ length t) where
+module _ (t : List ℕ) (n v p : ℕ) (fitted : n ≤ length t) where
   length_n : length (take n t) ≡ n
-  length_n = length-take-le n t (omega arith)
+  length_n = length-take-le n t fitted
 
-  pub so_far_none : SoFar t n most v p 0 n t
-  so_far_none =
-      let none : front t n v p 0 ≡ take n t = append-nil (take n t) in
-      record {
-        ends = sym (ap length none ∙ length_n);
-        within = begun;
-        holds = sym (ap (λ (z : List ℕ). over z t) none ∙ ap (λ (m : ℕ). take n t ++ drop m t) length_n ∙ take-append-drop n t);
-      }
+  pub so_far_none : (rest places : List ℕ) → rest ≡ take n t → places ≡ drop n t → ((k : ℕ) → k < n → get_or t k 0 < 2 ^ v) → SoFar t n v p rest 0 places
+  so_far_none rest places front back low =
+      let each : All (λ m. m < 2 ^ v) (take n t) = All-from_get_or (λ m. m < 2 ^ v) (take n t) 0 (λ k h. let near : k < n = omega (arith, length_n) in rw get_or-take (low k near)) in
+      record { given = []; parted = ap (filter (inside p)) (sym front); small = All-filter (inside p) (λ m. m < 2 ^ v) rest (All-same (λ m. m < 2 ^ v) rest (take n t) front each); counts = refl; holds = back }
 
-  pub so_far_read : (i end : ℕ) (table : List ℕ) → i < n → SoFar t n most v p i end table → get_or table i 0 ≡ get_or t i 0
-  so_far_read i end table h s =
-      ap (λ (z : List ℕ). get_or z i 0) s.holds
-      ∙ get_or_append_left (front t n v p i) (drop (length (front t n v p i)) t) 0 i (omega (arith, length-append (take n t) (above v p (take i t)), length_n))
-      ∙ get_or_append_left (take n t) (above v p (take i t)) 0 i (omega (arith, length_n))
-      ∙ get_or-take n t i 0 h
+  module _ (rest : List ℕ) (added : ℕ) (places : List ℕ) (s : SoFar t n v p rest added places) where
+    pub so_far_more : (x : ℕ) (left : List ℕ) → added < length places → filter (inside p) rest ≡ x ∷ filter (inside p) left → SoFar t n v p left (added + 1) (set places added (x + 2 ^ v))
+    so_far_more x left near e =
+        let done : List ℕ = map (λ m. m + 2 ^ v) s.given in
+        let more : map (λ m. m + 2 ^ v) (s.given ++ (x ∷ [])) ≡ done ++ ((x + 2 ^ v) ∷ []) = map-append (λ (m : ℕ). m + 2 ^ v) s.given (x ∷ []) in
+        let free : length done < length (drop n t) = omega (arith, s.counts, ap length s.holds, length-append done (drop (length done) (drop n t)), length-drop (length done) (drop n t)) in
+        record {
+          given = s.given ++ (x ∷ []);
+          parted = s.parted ∙ ap (λ (z : List ℕ). s.given ++ z) e ∙ sym (append_assoc s.given (x ∷ []) (filter (inside p) left));
+          small = All-tail (λ m. m < 2 ^ v) x (filter (inside p) left) (All-same (λ m. m < 2 ^ v) (x ∷ filter (inside p) left) (filter (inside p) rest) (sym e) s.small);
+          counts = ap length more ∙ length_push done (x + 2 ^ v) ∙ ap (λ (k : ℕ). k + 1) s.counts;
+          holds = ap (λ (z : List ℕ). set z added (x + 2 ^ v)) s.holds ∙ ap (λ (k : ℕ). set (over done (drop n t)) k (x + 2 ^ v)) (sym s.counts) ∙ over_push done (drop n t) (x + 2 ^ v) free ∙ ap (λ (z : List ℕ). over z (drop n t)) (sym more);
+        }
 
-  front_more : (i : ℕ) → i < n → front t n v p (i + 1) ≡ front t n v p i ++ above v p (get_or t i 0 ∷ [])
-  front_more i h =
-      ap (λ (z : List ℕ). take n t ++ above v p z) (take_more t i 0 (omega arith))
-      ∙ ap (λ (z : List ℕ). take n t ++ z) (above_append v p (take i t) (get_or t i 0 ∷ []))
-      ∙ sym (append_assoc (take n t) (above v p (take i t)) (above v p (get_or t i 0 ∷ [])))
+    whole : (pending : List ℕ) → filter (inside p) rest ≡ pending → take n t ++ above v p (take n t) ≡ (take n t ++ map (λ m. m + 2 ^ v) s.given) ++ map (λ m. m + 2 ^ v) pending
+    whole pending e =
+        let add : List ℕ → List ℕ = map (λ m. m + 2 ^ v) in
+        ap (λ (z : List ℕ). take n t ++ add z) (s.parted ∙ ap (λ (z : List ℕ). s.given ++ z) e) ∙ ap (λ (z : List ℕ). take n t ++ z) (map-append (λ (m : ℕ). m + 2 ^ v) s.given pending) ∙ sym (append_assoc (take n t) (add s.given) (add pending))
 
-  pub so_far_push : (i end : ℕ) (table : List ℕ) → i < n → SoFar t n most v p i end table → inside p (get_or table i 0) ≡ true → (end ≡ most → ⊥) → SoFar t n most v p (i + 1) (end + 1) (set table end (get_or table i 0 + 2 ^ v))
-  so_far_push i end table h s holds-all free =
-      let read = so_far_read i end table h s in
-      let new = get_or t i 0 + 2 ^ v in
-      let pushed : front t n v p (i + 1) ≡ front t n v p i ++ (new ∷ []) = front_more i h ∙ ap (λ (z : List ℕ). front t n v p i ++ z) (above_yes v p (get_or t i 0) (ap (inside p) (sym read) ∙ holds-all)) in
-      record {
-        ends = ap (λ (m : ℕ). m + 1) s.ends ∙ sym (length_push (front t n v p i) new) ∙ ap length (sym pushed);
-        within = omega (arith, s.within, free);
-        holds = ap (λ (z : ℕ). set table end (z + 2 ^ v)) read ∙ ap (λ (z : List ℕ). set z end new) s.holds ∙ ap (λ (m : ℕ). set (over (front t n v p i) t) m new) s.ends
-            ∙ over_push (front t n v p i) t new (omega (arith, s.ends, s.within, free)) ∙ ap (λ (z : List ℕ). over z t) (sym pushed);
-      }
+    length_done : length (take n t ++ map (λ m. m + 2 ^ v) s.given) ≡ n + added
+    length_done = omega (arith, length-append (take n t) (map (λ m. m + 2 ^ v) s.given), length_n, s.counts)
 
-  pub so_far_keep : (i end : ℕ) (table : List ℕ) → i < n → SoFar t n most v p i end table → inside p (get_or table i 0) ≡ false → SoFar t n most v p (i + 1) end table
-  so_far_keep i end table h s lacks =
-      let read = so_far_read i end table h s in
-      let same : front t n v p (i + 1) ≡ front t n v p i = front_more i h ∙ ap (λ (z : List ℕ). front t n v p i ++ z) (above_no v p (get_or t i 0) (ap (inside p) (sym read) ∙ lacks)) ∙ append-nil (front t n v p i) in
-      record { ends = s.ends ∙ ap length (sym same); within = s.within; holds = s.holds ∙ ap (λ (z : List ℕ). over z t) (sym same) }
+    joined : (front ys : List ℕ) → front ≡ take n t → ys ≡ take n t ++ map (λ m. m + 2 ^ v) s.given → front ++ places ≡ over ys t
+    joined front ys is e =
+        let done : List ℕ = map (λ m. m + 2 ^ v) s.given in
+        let further : n + length done ≡ length (take n t ++ done) = omega (arith, length_done, s.counts) in
+        ap (λ (z : List ℕ). z ++ places) is ∙ ap (λ (z : List ℕ). take n t ++ z) s.holds ∙ sym (append_assoc (take n t) done (drop (length done) (drop n t)))
+        ∙ ap (λ (z : List ℕ). (take n t ++ done) ++ z) (drop-drop (length done) n t ∙ ap (λ (k : ℕ). drop k t) further) ∙ ap (λ (z : List ℕ). over z t) (sym e)
 
-  -- the whole is what is done after i masks, and what comes from the others
-  front_rest : (i : ℕ) → i ≤ n → front t n v p n ≡ front t n v p i ++ above v p (drop i (take n t))
-  front_rest i h =
-      ap (λ (z : List ℕ). take n t ++ above v p z) (sym (take-append-drop i (take n t)) ∙ ap (λ (z : List ℕ). z ++ drop i (take n t)) (take-take i n t h))
-      ∙ ap (λ (z : List ℕ). take n t ++ z) (above_append v p (take i t) (drop i (take n t)))
-      ∙ sym (append_assoc (take n t) (above v p (take i t)) (above v p (drop i (take n t))))
+    -- no mask is left
+    pub so_far_done : (front : List ℕ) → front ≡ take n t → n + added ≤ length t → filter (inside p) rest ≡ [] → Appended t n v p (Some (n + added)) (front ++ places)
+    so_far_done front first near none =
+        let all = take n t ++ above v p (take n t) in
+        let is = whole [] none ∙ append-nil (take n t ++ map (λ m. m + 2 ^ v) s.given) in
+        let long : n + added ≡ length all = sym (ap length is ∙ length_done) in
+        let short : length all ≤ length t = omega (arith, long) in
+        (ap Some long ∙ fits (length t) (length all) short, joined front (take (length t) all) first (take_all (length t) all short ∙ is))
 
-  rest_some : (i : ℕ) → i < n → inside p (get_or t i 0) ≡ true → above v p (drop i (take n t)) ≡ (get_or t i 0 + 2 ^ v) ∷ above v p (drop (i + 1) (take n t))
-  rest_some i h e =
-      ap (above v p) (drop_more (take n t) i 0 (omega (arith, length_n)) ∙ ap (λ (z : ℕ). z ∷ drop (i + 1) (take n t)) (get_or-take n t i 0 h))
-      ∙ ap (λ (b : Bool). map (λ (x : ℕ). x + 2 ^ v) (cond b (get_or t i 0 ∷ filter (inside p) (drop (i + 1) (take n t))) (filter (inside p) (drop (i + 1) (take n t))))) e
-
-  -- the room ends before the list does
-  pub so_far_full : (i end : ℕ) (table : List ℕ) → i < n → SoFar t n most v p i end table → inside p (get_or table i 0) ≡ true → end ≡ most → (None ≡ fitting most (length (front t n v p n))) × (table ≡ over (take most (front t n v p n)) t)
-  so_far_full i end table h s holds-all full =
-      let read = so_far_read i end table h s in
-      let whole = front_rest i (omega arith) in
-      let longer = ap length whole ∙ length-append (front t n v p i) (above v p (drop i (take n t))) ∙ ap (λ (z : List ℕ). length (front t n v p i) + length z) (rest_some i h (ap (inside p) (sym read) ∙ holds-all)) in (
-        exceeds most (length (front t n v p n)) (omega (arith, longer, s.ends)),
-        s.holds ∙ ap (λ (z : List ℕ). over z t) (sym (ap (take most) whole ∙ take_at (front t n v p i) (above v p (drop i (take n t))) most (sym s.ends ∙ full))),
-      )
-
-  pub so_far_all : (i end : ℕ) (table : List ℕ) → i ≡ n → SoFar t n most v p i end table → (Some end ≡ fitting most (length (front t n v p n))) × (table ≡ over (take most (front t n v p n)) t)
-  so_far_all i end table same s =
-      let at-end : SoFar t n most v p n end table = subst (λ (k : ℕ). SoFar t n most v p k end table) same s in
-      let short : length (front t n v p n) ≤ most = omega (arith, at-end.ends, at-end.within) in
-      (ap Some at-end.ends ∙ fits most (length (front t n v p n)) short, at-end.holds ∙ ap (λ (z : List ℕ). over z t) (sym (take_all most (front t n v p n) short)))
+    -- a mask is left, and no place for it
+    pub so_far_full : (front : List ℕ) → front ≡ take n t → n + added ≡ length t → (x : ℕ) (left : List ℕ) → filter (inside p) rest ≡ x ∷ left → Appended t n v p None (front ++ places)
+    so_far_full front first full x left more =
+        let all = take n t ++ above v p (take n t) in
+        let done : List ℕ = take n t ++ map (λ m. m + 2 ^ v) s.given in
+        let others : List ℕ = map (λ m. m + 2 ^ v) (x ∷ left) in
+        let is : all ≡ done ++ others = whole (x ∷ left) more in
+        let long : length t < length all = omega (arith, ap length is, length-append done others, length_done) in
+        (exceeds (length t) (length all) long, joined front (take (length t) all) first (ap (take (length t)) is ∙ take_at done others (length t) (length_done ∙ full)))

@@ -1,4 +1,5 @@
 pub mod Elements
+pub mod Filtered
 pub mod Fronts
 pub mod Growing
 pub mod Listings

@@ -1,14 +1,15 @@
 -- The list holds a set exactly if it is an ideal, and ascends.
-use Rattle.std.proofs.Common.{◌≡◌, ℕ, zero, suc, ◌+◌, ◌-◌, ◌^◌, ◌<◌, ◌≤◌, Bool, true, false, ◌&&◌, ◌||◌, eqb, ltb, ◌⊎◌, filter, sym, refl, ap, ◌∙◌, subst, inl, inr, pow-suc, arith}
-use Rattle.std.specs.List.{AllByRecursion}
-use Rattle.std.proofs.ByRecursion.{All-append, All-weaker, All-map, all_kept_by, kept_by_passes}
-use Rattle.std.proofs.lemmas.Bool.{both_ways, cases_lt, cases_Bool, eqb-true, eq-eqb, lt-ltb, ltb-true}
+use Rattle.std.proofs.Common.{◌≡◌, ℕ, zero, suc, ◌+◌, ◌-◌, ◌^◌, ◌<◌, ◌≤◌, Bool, true, false, ◌&&◌, ◌||◌, eqb, ltb, ◌⊎◌, [], filter, sym, ap, ◌∙◌, subst, inl, inr, pow-suc, arith}
+use Rattle.std.specs.List.{All}
+use Rattle.std.proofs.lemmas.List.Elements.{All-append, All-cons, All-nil, All-weaker, All-map, All-filter, filter_passes}
+use Rattle.std.proofs.lemmas.Bool.{both_ways, cases_lt, cases_Bool, eqb-true, lt-ltb, ltb-true}
 use Rattle.sets.specs.Sets.{has, In, inside, full, gathered}
 use Rattle.sets.proofs.Sets.{has_none, same_sets, has_above, has_including, has_full, inside_means, and_false}
 use Rattle.sets.proofs.Members.{gathered_lt, has_gathered, or_above}
 use Rattle.ideals.specs.Ideals.{above, grown}
 use Rattle.ideals.proofs.Growing.{grown_small}
-use Rattle.ideals.proofs.Elements.{Listed, listed_left, listed_right, listed_map, listed_kept, all_both, Ascends, ascends_append, ascends_map, ascends_kept}
+use Rattle.ideals.proofs.Elements.{Listed, listed_left, listed_right, listed_map, listed_kept, Ascends, ascends_append, ascends_map}
+use Rattle.std.proofs.lemmas.List.Kept.{AllPairs-filter}
 
 -- a set of operators below n is below the power of two
 pub below_power : (n m : ℕ) → ((v : ℕ) → In v m → v < n) → m < 2 ^ n
@@ -33,13 +34,6 @@ module _ (v m : ℕ) (low : m < 2 ^ v) where
     | inr k ↦ inr (eqb-true u v (sym (has_more u ∙ ap (λ (b : Bool). b || eqb u v) k) ∙ h))
   ]
 
-  more_last : In v (m + 2 ^ v)
-  more_last = has_more v ∙ ap (λ (b : Bool). has m v || b) (eq-eqb v v refl) ∙ or_true (has m v)
-    where
-      or_true : (b : Bool) → (b || true) ≡ true
-      or_true true = refl
-      or_true false = refl
-
 -- m is an ideal of the first n operators, p giving the predecessors
 pub record Closed (p : ℕ → ℕ) (n m : ℕ) : Type 0 where
   pub only : (v : ℕ) → In v m → v < n
@@ -63,15 +57,11 @@ module _ (p : ℕ → ℕ) (up : (u v : ℕ) → In u (p v) → u < v) where
   wider : (v m : ℕ) → Closed p v m → Closed p (suc v) m
   wider v m d = record { only = λ u h. omega (arith, d.only u h); closed = d.closed }
 
-  pub grown_closed : (v : ℕ) → AllByRecursion (Closed p v) (grown p v)
+  pub grown_closed : (v : ℕ) → All (Closed p v) (grown p v)
   unfolding grown
-  grown_closed zero = (
-    record {
-      only = λ v h. absurd (both_ways (has 0 v) (has_none v) h);
-      closed = λ u v e h. absurd (both_ways (has 0 v) (has_none v) h);
-    },
-    tt,
-  )
+  grown_closed zero =
+      All-cons (Closed p 0) 0 [] (record { only = λ v h. absurd (both_ways (has 0 v) (has_none v) h); closed = λ u v e h. absurd (both_ways (has 0 v) (has_none v) h) })
+      (All-nil (Closed p 0))
   grown_closed (suc v) =
       let listed = grown_closed v in
       let kept = filter (inside (p v)) (grown p v) in
@@ -79,7 +69,7 @@ module _ (p : ℕ → ℕ) (up : (u v : ℕ) → In u (p v) → u < v) where
       (All-weaker (Closed p v) (Closed p (suc v)) (wider v) (grown p v) listed)
       (All-map (Closed p (suc v)) (λ (m : ℕ). m + 2 ^ v) kept
       (All-weaker (λ m. Closed p v m × (inside (p v) m ≡ true)) (λ m. Closed p (suc v) (m + 2 ^ v)) (λ m h. with_last v m h.0 h.1) kept
-      (all_both (Closed p v) (λ m. inside (p v) m ≡ true) kept (all_kept_by (inside (p v)) (Closed p v) (grown p v) listed) (kept_by_passes (inside (p v)) (grown p v)))))
+      (λ i d h. (All-filter (inside (p v)) (Closed p v) (grown p v) listed i d h, filter_passes (inside (p v)) (grown p v) i d h))))
 
   -- an ideal that holds the last operator, without it
   without_last : (v m : ℕ) → Closed p (suc v) m → In v m → (r : ℕ) × (r + 2 ^ v ≡ m) × Closed p v r × (inside (p v) r ≡ true)
@@ -133,11 +123,11 @@ module _ (p : ℕ → ℕ) (up : (u v : ℕ) → In u (p v) → u < v) where
 
 pub grown_ascends : (p : ℕ → ℕ) (v : ℕ) → Ascends (grown p v)
 unfolding grown
-grown_ascends p zero = (tt, tt)
+grown_ascends p zero = λ i j d h l. absurd (omega arith)
 grown_ascends p (suc v) =
     let kept = filter (inside (p v)) (grown p v) in
     ascends_append (2 ^ v) (grown p v) (above v (p v) (grown p v)) (grown_ascends p v)
-    (ascends_map (2 ^ v) kept (ascends_kept (inside (p v)) (grown p v) (grown_ascends p v)))
+    (ascends_map (2 ^ v) kept (AllPairs-filter (λ x y. x < y) (inside (p v)) (grown p v) (grown_ascends p v)))
     (grown_small p v)
     (All-map (λ y. 2 ^ v ≤ y) (λ (m : ℕ). m + 2 ^ v) kept
-    (All-weaker (λ m. inside (p v) m ≡ true) (λ m. 2 ^ v ≤ m + 2 ^ v) (λ m h. omega arith) kept (kept_by_passes (inside (p v)) (grown p v))))
+    (All-weaker (λ m. inside (p v) m ≡ true) (λ m. 2 ^ v ≤ m + 2 ^ v) (λ m h. omega arith) kept (filter_passes (inside (p v)) (grown p v))))

@@ -21,10 +21,9 @@ fn loose(operators: usize) -> Result<Sheet, Refusal> {
 // The diamond: edges 0 to 1, 0 to 2, 1 to 3 and 2 to 3.
 fn diamond() -> Result<Sheet, Refusal> {
     let mut sheet = loose(4)?;
-    sheet.join(0, 1)?;
-    sheet.join(0, 2)?;
-    sheet.join(1, 3)?;
-    sheet.join(2, 3)?;
+    for (from, to) in [(0, 1), (0, 2), (1, 3), (2, 3)] {
+        sheet.join(from, to)?;
+    }
     Ok(sheet)
 }
 

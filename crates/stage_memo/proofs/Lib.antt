@@ -2,6 +2,6 @@ pub mod Lowest
 pub mod Masks
 pub mod Parts
 pub mod Below
-pub mod Whole
+pub mod Nothing
+pub mod Made
 pub mod Added
-pub mod Walks

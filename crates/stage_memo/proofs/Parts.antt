@@ -1,8 +1,8 @@
 -- Sums over the operators that pass a test, taken apart.
-use Rattle.std.proofs.Common.{◌≡◌, ℕ, ◌+◌, ◌<◌, Bool, true, false, cond, not, ◌&&◌, ◌||◌, eqb, List, [], ◌∷◌, sum_by, filter, sym, refl, ap, ◌∙◌, inl, inr, arith}
+use Rattle.std.proofs.Common.{◌≡◌, ℕ, ◌+◌, ◌<◌, Bool, true, false, cond, ◌&&◌, ◌||◌, eqb, List, [], ◌∷◌, sum_by, filter, sym, refl, ap, ◌∙◌, inl, inr, arith}
 use Rattle.std.proofs.lemmas.List.Sums.{sum_by-cons}
 use Rattle.std.proofs.lemmas.List.{get_or_past}
-use Rattle.std.proofs.lemmas.Bool.{true≢false, cases_lt, eq-eqb, ne_eqb}
+use Rattle.std.proofs.lemmas.Bool.{cases_lt, eq-eqb, ne_eqb}
 use Rattle.sets.specs.Sets.{upto}
 use Rattle.sets.proofs.Sets.{and_true, and_false}
 use Rattle.sets.proofs.Members.{kept_same, kept_none, kept_first}
@@ -14,26 +14,18 @@ use Rattle.sheet.specs.Figures.{figure_of, charged}
 
 -- over the operators that pass either of two tests, none of which passes both
 module _ (f : ℕ → ℕ) (p q r : ℕ → Bool) (is : (u : ℕ) → p u ≡ (q u || r u)) (apart : (u : ℕ) → (q u && r u) ≡ false) where
+  step : (x : ℕ) (xs : List ℕ) → sum_by f (filter p xs) ≡ sum_by f (filter q xs) + sum_by f (filter r xs) → sum_by f (filter p (x ∷ xs)) ≡ sum_by f (filter q (x ∷ xs)) + sum_by f (filter r (x ∷ xs))
+  step x xs rest = grind (arith, is x, apart x, sum_by-cons f x)
+
   sum_apart : (xs : List ℕ) → sum_by f (filter p xs) ≡ sum_by f (filter q xs) + sum_by f (filter r xs)
   sum_apart [] = refl
-  sum_apart (x ∷ xs) = step (p x) (q x) (r x) (is x) (apart x) (sum_apart xs)
-    where
-      step : (a b c : Bool) → a ≡ (b || c) → (b && c) ≡ false → sum_by f (filter p xs) ≡ sum_by f (filter q xs) + sum_by f (filter r xs)
-          → sum_by f (cond a (x ∷ filter p xs) (filter p xs)) ≡ sum_by f (cond b (x ∷ filter q xs) (filter q xs)) + sum_by f (cond c (x ∷ filter r xs) (filter r xs))
-      step a true true e h rest = absurd (true≢false h)
-      step a true false e h rest = rw e (omega (arith, sum_by-cons f x (filter p xs), sum_by-cons f x (filter q xs)))
-      step a false true e h rest = rw e (omega (arith, sum_by-cons f x (filter p xs), sum_by-cons f x (filter r xs)))
-      step a false false e h rest = rw e rest
+  sum_apart (x ∷ xs) = step x xs (sum_apart xs)
 
 sum_single : (f : ℕ → ℕ) (v k : ℕ) → v < k → sum_by f (filter (λ u. eqb u v) (upto k)) ≡ f v
 sum_single f v k near =
     let none : filter (λ (u : ℕ). false) (upto k) ≡ [] = kept_none (λ u. false) k (λ u h. refl) in
-    let first = kept_first (λ u. eqb u v) (λ u. false) v k near (eq-eqb v v refl) (λ u h. ne_eqb u v (λ e. omega arith)) (λ u. sym (and_not (eqb u v))) in
+    let first = kept_first (λ u. eqb u v) (λ u. false) v k near (eq-eqb v v refl) (λ u h. ne_eqb u v (λ e. omega arith)) (λ u. grind arith) in
     ap (sum_by f) (first ∙ ap (λ (xs : List ℕ). v ∷ xs) none) ∙ sum_by-cons f v [] ∙ omega arith
-  where
-    and_not : (b : Bool) → (b && not b) ≡ false
-    and_not true = refl
-    and_not false = refl
 
 figure_blank : (w : Figure) → figure_of w blank ≡ 0
 figure_blank Acc = refl

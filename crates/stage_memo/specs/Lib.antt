@@ -1,3 +1,3 @@
-pub mod Entries
+pub mod Known
+pub mod Lowest
 pub mod Views
-pub mod Walks

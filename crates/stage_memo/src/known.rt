@@ -1,22 +1,33 @@
+ghost use Rattle.std.specs.Prelude.{◌≡◌};
+ghost use Rattle.sheet.specs.Nets.{Net};
+
+use sheet::StageFigures;
+
 // What is known of a set of operators: its figures as a stage, and the operators that feed it.
 #[derive(Clone, Copy)]
 pub(crate) struct Known {
-    pub(crate) mask: u64,
+    pub(crate) figures: StageFigures,
     pub(crate) feeding: u64,
-    pub(crate) acc: u32,
-    pub(crate) cpu: u32,
-    pub(crate) size: u32,
-    pub(crate) incoming: u32,
-    pub(crate) outgoing: u32,
 }
 
-// Of the set without operators.
-pub(crate) const NOTHING: Known = Known {
-    mask: 0,
-    feeding: 0,
-    acc: 0,
-    cpu: 0,
-    size: 0,
-    incoming: 0,
-    outgoing: 0,
-};
+impl Known {
+    ghost use Rattle.stage_memo.specs.Known.{Right};
+
+    // Of the set without operators, whatever the sheet.
+    pub(crate) fn of_none() -> Known
+        ensures mask { result.figures.mask ≡ 0 }
+        ensures right { (n : Net) → Right n result }
+    {
+        Known {
+            figures: StageFigures {
+                mask: 0,
+                acc: 0,
+                cpu: 0,
+                size: 0,
+                incoming: 0,
+                outgoing: 0,
+            },
+            feeding: 0,
+        }
+    }
+}

@@ -3,7 +3,6 @@
 
 mod known;
 mod memos;
-mod places;
-mod steps;
+mod splits;
 
 pub use memos::StageMemo;

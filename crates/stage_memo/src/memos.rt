@@ -1,19 +1,129 @@
-ghost use Rattle.std.specs.Prelude.{◌≡◌, ℕ, ◌<◌, length, slice_index_or};
-ghost use Rattle.sheet.specs.Views.{net};
-ghost use Rattle.stage_memo.specs.Entries.{Weighs, Links, Right, vacant, nothing};
+ghost use Rattle.std.specs.Prelude.{◌≡◌, ℕ, ◌<◌, ◌≤◌, length, slice_index, sum_by};
+ghost use Rattle.std.specs.List.{All};
+ghost use Rattle.sets.specs.Sets.{In, including, members};
+ghost use Rattle.sheet.specs.Rules.{most_sum};
+ghost use Rattle.sheet.specs.Nets.{before};
+ghost use Rattle.sheet.specs.Nets.{row as row_of};
+ghost use Rattle.sheet.specs.Figures.{figures_of};
+ghost use Rattle.sheet.specs.Views.{net, sums};
+ghost use Rattle.stage_memo.specs.Known.{Right};
 
 use super::known::Known;
-use super::places::Place;
-use sheet::Sheet;
+use super::splits::split_lowest;
+use sheet::{Operator, Sheet, StageFigures};
+use std::array;
 
-// A sheet, what it says of each operator, and for each operator what is known of one set of operators, mostly of one whose lowest it is.
+// Of a number without operator.
+static BLANK: Operator = Operator {
+    acc: 0,
+    cpu: 0,
+    size: 0,
+    link: 0,
+};
+
+// A sheet and, in fixed memory, the predecessors of each number, and what is known of some sets: at each number of one whose lowest operator it is, and until then of the set without operators.
 #[derive(Drop)]
 pub struct StageMemo<'a> {
-    pub(crate) sheet: &'a Sheet,
-    pub(crate) places: [Place; 64],
-    pub(crate) known: [Known; 64],
-    ghost tables: { (length places ≡ 64) × (length known ≡ 64) },
-    ghost weighs: { ((v : ℕ) → v < 64 → Weighs (net sheet.now) v (slice_index_or places v vacant)) },
-    ghost links: { ((v : ℕ) → v < 64 → Links (net sheet.now) v (slice_index_or places v vacant)) },
-    ghost right: { ((v : ℕ) → Right (net sheet.now) (slice_index_or known v nothing)) },
+    sheet: &'a Sheet,
+    predecessors: [u64; 64],
+    known: [Known; 64],
+    ghost edges: { ((v : ℕ) → v < 64 → slice_index predecessors v ≡ before (net sheet.now) v) },
+    ghost right: { All (Right (net sheet.now)) known },
+}
+
+impl<'a> StageMemo<'a> {
+    ghost use Rattle.stage_memo.specs.Views.{memo_net};
+
+    // A memo that knows nothing but the sheet.
+    pub fn new(sheet: &'a Sheet) -> StageMemo<'a>
+        ensures { memo_net result ≡ net sheet.now }
+    {
+        StageMemo {
+            sheet,
+            predecessors: array::from_fn(|v| sheet.predecessors(v)),
+            known: [Known::of_none(); 64],
+        }
+    }
+
+    // The figures of the number `v`.
+    fn row(&self, v: usize) -> &Operator
+        ensures { result.now ≡ row_of (memo_net self.now) v }
+    {
+        // not by `unwrap_or`: the two rows live for different times
+        match self.sheet.row(v) {
+            Some(row) => row,
+            None => &BLANK,
+        }
+    }
+
+    // The sum of the links of a set of operators.
+    fn links(&self, set: u64) -> u32
+        ensures value { result ≡ sum_by (λ v. (row_of (memo_net self.now) v).link) (members set) }
+        ensures bound { result ≤ most_sum }
+    {
+        sets::members_of(set).map(|v| self.row(v).link).sum()
+    }
+
+    // What is known of a set with an operator below all of its own added.
+    fn with_below(&self, above: Known, v: usize) -> Known
+        requires place { v < 64 }
+        requires below { (u : ℕ) → In u above.figures.mask → v < u }
+        requires right { Right (memo_net self.now) above }
+        ensures mask { result.figures.mask ≡ including above.figures.mask v }
+        ensures right { Right (memo_net self.now) result }
+    {
+        let old = above.figures;
+        let row = self.row(v);
+        let mask = sets::include(old.mask, v);
+        let predecessors = self.predecessors[v];
+        let fresh = self.links(sets::difference(predecessors, above.feeding));
+        let kept = if sets::holds(above.feeding, v) {
+            old.incoming - row.link
+        } else {
+            old.incoming
+        };
+        let outgoing = if sets::is_inside(self.sheet.successors(v), old.mask) {
+            old.outgoing
+        } else {
+            old.outgoing + row.link
+        };
+        Known {
+            figures: StageFigures {
+                mask,
+                acc: old.acc + row.acc,
+                cpu: old.cpu + row.cpu,
+                size: old.size + row.size,
+                incoming: kept + fresh,
+                outgoing,
+            },
+            feeding: sets::difference(sets::union(above.feeding, predecessors), mask),
+        }
+    }
+
+    // Comes to know a set, if it is not known, from what is known of its operators but the lowest.
+    fn reach(&mut self, mask: u64) -> Known
+        ensures mask { result.figures.mask ≡ mask }
+        ensures right { Right (memo_net self.old) result }
+        ensures keeps { memo_net self.new ≡ memo_net self.old }
+    {
+        let Some((v, others)) = split_lowest(mask) else {
+            return Known::of_none();
+        };
+        let entry = self.known[v];
+        if entry.figures.mask == mask {
+            return entry;
+        }
+        let above = self.reach(others);
+        let known = self.with_below(above, v);
+        self.known[v] = known;
+        known
+    }
+
+    // The figures of a set of operators as a stage. Bits that stand for no operator add nothing.
+    pub fn figures(&mut self, mask: u64) -> StageFigures
+        ensures value { sums result ≡ figures_of (memo_net self.old) mask }
+        ensures keeps { memo_net self.new ≡ memo_net self.old }
+    {
+        self.reach(mask).figures
+    }
 }

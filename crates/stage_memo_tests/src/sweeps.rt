@@ -16,37 +16,25 @@ fn diamond() -> Result<Sheet, Refusal> {
             link: 4096 << v,
         })?;
     }
-    sheet.join(0, 1)?;
-    sheet.join(0, 2)?;
-    sheet.join(1, 3)?;
-    sheet.join(2, 3)?;
+    for (from, to) in [(0, 1), (0, 2), (1, 3), (2, 3)] {
+        sheet.join(from, to)?;
+    }
     Ok(sheet)
 }
 
 // Asks for one set, and compares with the sheet.
 fn check_stage(rt: &impl Abort, sheet: &Sheet, memo: &mut StageMemo<'_>, mask: u64) {
     let known = memo.figures(mask);
-    let summed = sheet.figures(mask);
     assert_eq!(rt; known.mask, mask);
-    assert_eq!(rt;
-        [known.acc, known.cpu, known.size],
-        [summed.acc, summed.cpu, summed.size]
-    );
-    assert_eq!(rt;
-        [known.incoming, known.outgoing],
-        [summed.incoming, summed.outgoing]
-    );
+    assert_eq!(rt; known, sheet.figures(mask));
 }
 
 #[test]
 fn ascending_and_descending(rt: HostRuntime) -> Result<(), Fail> {
     let sheet = diamond()?;
     let mut memo = StageMemo::new(&sheet);
-    for mask in 0..16 {
+    for mask in (0..16).chain((0..16).rev()) {
         check_stage(&rt, &sheet, &mut memo, mask);
-    }
-    for mask in 0..16 {
-        check_stage(&rt, &sheet, &mut memo, 15 - mask);
     }
     Ok(())
 }
@@ -55,9 +43,9 @@ fn ascending_and_descending(rt: HostRuntime) -> Result<(), Fail> {
 fn bits_without_operator_add_nothing(rt: HostRuntime) -> Result<(), Fail> {
     let sheet = diamond()?;
     let mut memo = StageMemo::new(&sheet);
-    check_stage(&rt, &sheet, &mut memo, u64::MAX);
-    check_stage(&rt, &sheet, &mut memo, 1 << 63 | 6);
-    check_stage(&rt, &sheet, &mut memo, 6);
+    for mask in [u64::MAX, 1 << 63 | 6, 6] {
+        check_stage(&rt, &sheet, &mut memo, mask);
+    }
     Ok(())
 }
 

@@ -1,57 +1,48 @@
-use Rattle.std.proofs.Common.{◌≡◌, ℕ, length, take, set, ap, ◌∙◌, arith}
-use Rattle.std.proofs.lemmas.List.{length-set}
+use Rattle.std.proofs.Common.{length, take, Some, None, sym, ◌∙◌, arith}
+use Rattle.std.proofs.lemmas.Bool.{ltb-true, ltb-false}
 use Rattle.sheet.specs.Nets.{before, size}
 use Rattle.sheet.specs.Views.{net}
-use Rattle.ideals.specs.Ideals.{ideals, room, over, fitting}
-use Rattle.ideals.proofs.Fronts.{exceeds}
-use Rattle.ideals.proofs.Growing.{grown_some, stands_none, stands_small, stands_more, stands_full, stands_all, over_first}
+use Rattle.ideals.proofs.Growing.{stands_none, stands_length, stands_small, stands_more, stands_full, stands_all, listed_room, listed_nowhere}
 use Rattle.ideals.proofs.Listings.{listing}
 use Rattle.ideals.proofs.list.Goals as goal
 
-pub returns-then-most-eq0 : goal.returns-then-most-eq0
-returns-then-most-eq0 c =
+pub returns-in_err-first_mut : goal.returns-in_err-first_mut
+returns-in_err-first_mut c =
     let n = net c.args.sheet.now in
-    let none : 0 ≡ room (length c.args.table.now) = omega (arith, c.min-most.ensures, c.if-most-eq0.true) in
-    record {
-      told = exceeds 0 (length (ideals n)) (grown_some (before n) (size n)) ∙ ap (λ (m : ℕ). fitting m (length (ideals n))) none;
-      table = ap (λ (m : ℕ). over (take m (ideals n)) c.args.table.now) none;
-      means = listing n c.operators-operators.ensures.keeps;
-    }
+    let f = listed_nowhere (before n) (size n) c.args.table.now c.min-most.result (omega (arith, c.min-most.ensures)) (omega (arith, ltb-false 0 (length (take c.min-most.result c.args.table.now)) (sym c.in_err-first_mut.ensures.item.0))) in
+    record { told = c.from_residual.ensures ∙ f.0; table = f.1; means = listing n c.operators-operators.ensures.keeps }
 
 pub loop-v-init : goal.loop-v-init
-loop-v-init c =
-    stands_none (before (net c.args.sheet.now)) c.args.table.now c.min-most.result (omega (arith, c.if-most-eq0.false)) (omega (arith, c.min-most.ensures))
+loop-v-init c = stands_none (before (net c.args.sheet.now)) (take c.min-most.result c.args.table.now) (ltb-true 0 (length (take c.min-most.result c.args.table.now)) (sym c.in_ok-first_mut.ensures.item.0))
 
 pub append_above-requires : goal.append_above-requires
-append_above-requires c = record {
-  begun = c.loop-v.invariant.within;
-  fits = omega (arith, c.min-most.ensures, c.loop-v.auto.table, length-set c.args.table.now 0 0);
-  few = omega (arith, c.operators-operators.ensures.value, c.operators-operators.ensures.keeps.few, c.loop-v-test.true);
-  small = stands_small (before (net c.args.sheet.now)) (set c.args.table.now 0 0) c.min-most.result c.loop-v.v c.loop-v.count c.loop-v.table c.loop-v.invariant;
-}
+append_above-requires c =
+    let t = take c.min-most.result c.args.table.now in
+    let p = before (net c.args.sheet.now) in
+    record {
+      fits = omega (arith, c.loop-v.invariant.within, stands_length p t c.loop-v.v c.loop-v.count c.loop-v.room c.loop-v.invariant);
+      few = omega (arith, c.operators-operators.ensures.value, c.operators-operators.ensures.keeps.few, c.loop-v-test.true);
+      small = stands_small p t c.loop-v.v c.loop-v.count c.loop-v.room c.loop-v.invariant;
+    }
 
 pub loop-v-preserved : goal.loop-v-preserved
 loop-v-preserved c =
-    stands_more (before (net c.args.sheet.now)) (set c.args.table.now 0 0) c.min-most.result c.loop-v.v c.loop-v.count c.loop-v.table c.loop-v.invariant c.predecessors.result c.in_ok-count.count c.append_above.new.table c.predecessors.ensures.value c.in_ok-count.ensures.told c.in_ok-count.ensures.table
+    stands_more (before (net c.args.sheet.now)) (take c.min-most.result c.args.table.now) c.loop-v.v c.loop-v.count c.loop-v.room c.loop-v.invariant c.predecessors.result c.in_ok-count.count c.append_above.new.table c.predecessors.ensures.value (c.in_ok-count.ensures.told, c.in_ok-count.ensures.table)
 
 pub returns-in_err-count : goal.returns-in_err-count
 returns-in_err-count c =
     let n = net c.args.sheet.now in
-    let same : c.min-most.result ≡ room (length c.args.table.now) = omega (arith, c.min-most.ensures) in
-    let full = stands_full (before n) (set c.args.table.now 0 0) c.min-most.result c.loop-v.v c.loop-v.count c.loop-v.table c.loop-v.invariant c.predecessors.result (size n) c.append_above.new.table (omega (arith, c.operators-operators.ensures.value, c.loop-v-test.true)) c.predecessors.ensures.value c.in_err-count.ensures.told c.in_err-count.ensures.table in
-    record {
-      told = c.from_residual.ensures ∙ full.0 ∙ ap (λ (m : ℕ). fitting m (length (ideals n))) same;
-      table = full.1 ∙ over_first (before n) c.args.table.now c.min-most.result (size n) (omega (arith, c.if-most-eq0.false)) ∙ ap (λ (m : ℕ). over (take m (ideals n)) c.args.table.now) same;
-      means = listing n c.operators-operators.ensures.keeps;
-    }
+    let t = c.args.table.now in
+    let m = c.min-most.result in
+    let full = stands_full (before n) (take m t) c.loop-v.v c.loop-v.count c.loop-v.room c.loop-v.invariant c.predecessors.result (size n) c.append_above.new.table (omega (arith, c.operators-operators.ensures.value, c.loop-v-test.true)) c.predecessors.ensures.value (c.in_err-count.ensures.told, c.in_err-count.ensures.table) in
+    let f = listed_room (before n) (size n) t m (omega (arith, c.min-most.ensures)) None c.append_above.new.table full.0 full.1 in
+    record { told = c.from_residual-in_err-count.ensures ∙ f.0; table = f.1; means = listing n c.operators-operators.ensures.keeps }
 
 pub returns : goal.returns
 returns c =
     let n = net c.args.sheet.now in
-    let same : c.min-most.result ≡ room (length c.args.table.now) = omega (arith, c.min-most.ensures) in
-    let whole = stands_all (before n) (set c.args.table.now 0 0) c.min-most.result c.loop-v.v c.loop-v.count c.loop-v.table c.loop-v.invariant (size n) (omega (arith, c.operators-operators.ensures.value)) in
-    record {
-      told = whole.0 ∙ ap (λ (m : ℕ). fitting m (length (ideals n))) same;
-      table = whole.1 ∙ over_first (before n) c.args.table.now c.min-most.result (size n) (omega (arith, c.if-most-eq0.false)) ∙ ap (λ (m : ℕ). over (take m (ideals n)) c.args.table.now) same;
-      means = listing n c.operators-operators.ensures.keeps;
-    }
+    let t = c.args.table.now in
+    let m = c.min-most.result in
+    let all = stands_all (before n) (take m t) c.loop-v.v c.loop-v.count c.loop-v.room c.loop-v.invariant (size n) (omega (arith, c.operators-operators.ensures.value)) in
+    let f = listed_room (before n) (size n) t m (omega (arith, c.min-most.ensures)) (Some c.loop-v.count) c.loop-v.room all.0 all.1 in
+    record { told = f.0; table = f.1; means = listing n c.operators-operators.ensures.keeps }

@@ -1,14 +1,15 @@
-use Rattle.std.proofs.Common.{◌≡◌, refl, rules}
+use Rattle.std.proofs.Common.{refl, arith, rules}
+use Rattle.std.proofs.lemmas.List.Elements.{All-replicate}
+use Rattle.sheet.specs.Nets.{before}
 use Rattle.sheet.specs.Views.{net}
-use Rattle.stage_memo.proofs.Whole.{nothing_known}
+use Rattle.stage_memo.specs.Known.{Right}
+use Rattle.stage_memo.proofs.Made.{made}
 use Rattle.stage_memo.proofs.memos.StageMemo.new.Goals as goal
 
 pub invariant_of-result : goal.invariant_of-result
 invariant_of-result c =
-    let all : c.loop-v.v ≡ 64 = search rules in
+    let n = net c.args.sheet.now in
     record {
-      tables = (c.loop-v.invariant.0, refl);
-      weighs = λ v h. (c.loop-v.invariant.1 v (rw all h)).0;
-      links = λ v h. (c.loop-v.invariant.1 v (rw all h)).1;
-      right = λ v. nothing_known (net c.args.sheet.now) 64 v;
+      edges = λ v near. made _ (before n) _ (λ u y q k. search rules) c.from_fn.result 0 64 _ refl c.from_fn.ensures.items.each v (omega arith) (omega arith);
+      right = All-replicate (Right n) 64 c.of_none.result (c.of_none.ensures.right n);
     }

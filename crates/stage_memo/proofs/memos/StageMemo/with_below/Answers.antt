@@ -1,48 +1,68 @@
-use Rattle.std.proofs.Common.{ℕ, ◌+◌, ◌-◌, sym, subst, arith}
-use Rattle.stage_memo.specs.Entries.{Right}
+use Rattle.std.proofs.Common.{◌≡◌, ℕ, ◌+◌, ◌-◌, ◌≤◌, cond, not, true, false, get_or, sym, ap, ◌∙◌, subst, arith}
+use Rattle.sets.specs.Sets.{has, inside, including}
+use Rattle.sheet.specs.declared.operators.Figure.TheVariants.{Acc, Cpu, Size}
+use Rattle.sheet.specs.Rules.{most_sum}
+use Rattle.sheet.specs.Figures.{Sums, figures_of}
+use Rattle.sheet.proofs.Charges.{same_sums}
+use Rattle.sheet.proofs.Fronts.{kept_by_sheet}
 use Rattle.stage_memo.specs.Views.{memo_net}
-use Rattle.stage_memo.proofs.Added.{at, acc_added, cpu_added, size_added, feeding_added, incoming_added, outgoing_added, included}
+use Rattle.stage_memo.proofs.Added.{sum_added, incoming_added, outgoing_added, feeding_added, included}
 use Rattle.stage_memo.proofs.memos.StageMemo.with_below.Goals as goal
+use Rattle.stage_memo.proofs.memos.StageMemo.with_below.Goals.{After-difference-2, then-holds, else-holds, then-is_inside, else-is_inside}
 
-pub overflow_add-result : goal.overflow_add-result
-overflow_add-result c = omega (arith, (acc_added c.args.self.now c.args.above c.args.v c.requires.place c.requires.below c.requires.right).1)
+pub overflow_sub-kept : goal.overflow_sub-kept
+overflow_sub-kept c =
+    let s = c.args.self.now in
+    let k = c.args.above in
+    let yes : has k.feeding c.args.v ≡ true = sym c.holds.ensures ∙ c.if-holds.true in
+    rw yes at (incoming_added (memo_net s) (kept_by_sheet s.sheet.now) k.figures.mask c.args.v c.requires.below c.row-row.result.now c.row-row.ensures k.feeding (get_or s.predecessors c.args.v 0) c.difference.result k.figures.incoming c.links-fresh.result
+    c.requires.right.feeding (s.edges c.args.v c.requires.place) c.difference.ensures (ap (λ (f : Sums). f.incoming) c.requires.right.figures) c.links-fresh.ensures.value).0
 
-pub overflow_add-result-2 : goal.overflow_add-result-2
-overflow_add-result-2 c = omega (arith, (cpu_added c.args.self.now c.args.above c.args.v c.requires.place c.requires.below c.requires.right).1)
+-- the five sums are those of the set with the operator, and small
+step : (c : goal.After-difference-2)
+    → (record { mask = including c.args.above.figures.mask c.args.v; acc = c.args.above.figures.acc + c.row-row.result.now.acc; cpu = c.args.above.figures.cpu + c.row-row.result.now.cpu; size = c.args.above.figures.size + c.row-row.result.now.size; incoming = c.if-holds.kept + c.links-fresh.result; outgoing = c.if-is_inside.outgoing } ≡ figures_of (memo_net c.args.self.now) (including c.args.above.figures.mask c.args.v))
+    × ((c.args.above.figures.acc + c.row-row.result.now.acc ≤ most_sum) × (c.args.above.figures.cpu + c.row-row.result.now.cpu ≤ most_sum) × (c.args.above.figures.size + c.row-row.result.now.size ≤ most_sum) × (c.if-holds.kept + c.links-fresh.result ≤ most_sum) × (c.if-is_inside.outgoing ≤ most_sum))
+step c =
+    let s = c.args.self.now in
+    let n = memo_net s in
+    let kept = kept_by_sheet s.sheet.now in
+    let k = c.args.above in
+    let f = k.figures in
+    let v = c.args.v in
+    let o = c.row-row.result.now in
+    let right = c.requires.right.figures in
+    let acc = sum_added n kept f.mask v c.requires.below o c.row-row.ensures Acc f.acc (ap (λ (f : Sums). f.acc) right) in
+    let cpu = sum_added n kept f.mask v c.requires.below o c.row-row.ensures Cpu f.cpu (ap (λ (f : Sums). f.cpu) right) in
+    let size = sum_added n kept f.mask v c.requires.below o c.row-row.ensures Size f.size (ap (λ (f : Sums). f.size) right) in
+    let incoming = incoming_added n kept f.mask v c.requires.below o c.row-row.ensures k.feeding (get_or s.predecessors v 0) c.difference.result f.incoming c.links-fresh.result
+    c.requires.right.feeding (s.edges v c.requires.place) c.difference.ensures (ap (λ (f : Sums). f.incoming) right) c.links-fresh.ensures.value in
+    let outgoing = outgoing_added n kept f.mask v c.requires.below o c.row-row.ensures c.successors.result f.outgoing c.successors.ensures (ap (λ (f : Sums). f.outgoing) right) in
+    let kept-is : c.if-holds.kept ≡ f.incoming - cond (has k.feeding v) o.link 0 = elim c.if-holds.branch [
+      | then-holds w ↦ let yes : has k.feeding v ≡ true = sym c.holds.ensures ∙ w.if-holds.true in rw yes w.kept-is
+      | else-holds w ↦ let out : has k.feeding v ≡ false = sym c.holds.ensures ∙ w.if-holds.false in rw out (omega (arith, w.kept-is))
+    ] in
+    let outgoing-is : c.if-is_inside.outgoing ≡ f.outgoing + cond (not (inside c.successors.result f.mask)) o.link 0 = elim c.if-is_inside.branch [
+      | then-is_inside w ↦ let yes : inside c.successors.result f.mask ≡ true = sym c.is_inside.ensures ∙ w.if-is_inside.true in rw yes (omega (arith, w.outgoing-is))
+      | else-is_inside w ↦ let out : inside c.successors.result f.mask ≡ false = sym c.is_inside.ensures ∙ w.if-is_inside.false in rw out w.outgoing-is
+    ] in (
+      same_sums (including f.mask v) acc.0 cpu.0 size.0 (rw kept-is incoming.1) (rw outgoing-is outgoing.0),
+      (acc.1, cpu.1, size.1, rw kept-is incoming.2, rw outgoing-is outgoing.1),
+    )
 
-pub overflow_add-result-3 : goal.overflow_add-result-3
-overflow_add-result-3 c = omega (arith, (size_added c.args.self.now c.args.above c.args.v c.requires.place c.requires.below c.requires.right).1)
-
-pub overflow_sub-result : goal.overflow_sub-result
-overflow_sub-result c =
-    (incoming_added c.args.self.now c.args.above c.args.v c.requires.place c.requires.below c.requires.right c.holds.result c.charge-fed.result c.difference.result c.links-fresh.result
-    c.holds.ensures c.charge-fed.ensures c.difference.ensures c.links-fresh.ensures.value).0
-
-pub overflow_add-result-4 : goal.overflow_add-result-4
-overflow_add-result-4 c =
-    let all = incoming_added c.args.self.now c.args.above c.args.v c.requires.place c.requires.below c.requires.right c.holds.result c.charge-fed.result c.difference.result c.links-fresh.result
-    c.holds.ensures c.charge-fed.ensures c.difference.ensures c.links-fresh.ensures.value in
-    omega (arith, all.2)
-
-pub overflow_add-result-5 : goal.overflow_add-result-5
-overflow_add-result-5 c =
-    omega (arith, (outgoing_added c.args.self.now c.args.above c.args.v c.requires.place c.requires.below c.requires.right c.is_inside.result c.charge-sent.result c.is_inside.ensures c.charge-sent.ensures).1)
+pub invariant_of-result : goal.invariant_of-result
+invariant_of-result c = record { small = (step c).1 }
 
 pub returns : goal.returns
 returns c =
     let s = c.args.self.now in
     let k = c.args.above in
-    let v = c.args.v in
-    let more = included k.mask v c.include-mask.result c.requires.place c.include-mask.ensures in
-    let acc = acc_added s k v c.requires.place c.requires.below c.requires.right in
-    let cpu = cpu_added s k v c.requires.place c.requires.below c.requires.right in
-    let size = size_added s k v c.requires.place c.requires.below c.requires.right in
-    let feeding = feeding_added s k v c.requires.place c.requires.below c.requires.right c.union.result c.include-mask.result c.difference-2.result c.union.type_inv c.include-mask.type_inv c.union.ensures more c.difference-2.ensures in
-    let incoming = incoming_added s k v c.requires.place c.requires.below c.requires.right c.holds.result c.charge-fed.result c.difference.result c.links-fresh.result
-    c.holds.ensures c.charge-fed.ensures c.difference.ensures c.links-fresh.ensures.value in
-    let outgoing = outgoing_added s k v c.requires.place c.requires.below c.requires.right c.is_inside.result c.charge-sent.result c.is_inside.ensures c.charge-sent.ensures in
+    let f = k.figures in
+    let more = included f.mask c.args.v c.include-mask.result c.requires.place c.include-mask.ensures in
+    let all = step (goal.at.returns c).After-difference-2 in
     record {
       mask = more;
-      right = subst (λ (m : ℕ). Right (memo_net s) (record { mask = m; feeding = c.difference-2.result; acc = k.acc + (at s v).acc; cpu = k.cpu + (at s v).cpu; size = k.size + (at s v).size; incoming = (k.incoming - c.charge-fed.result) + c.links-fresh.result; outgoing = k.outgoing + c.charge-sent.result })) (sym more)
-          ((acc.0, cpu.0, size.0), (feeding, incoming.1, outgoing.0));
+      right = record {
+        figures = subst (λ (m : ℕ). record { mask = m; acc = f.acc + c.row-row.result.now.acc; cpu = f.cpu + c.row-row.result.now.cpu; size = f.size + c.row-row.result.now.size; incoming = c.if-holds.kept + c.links-fresh.result; outgoing = c.if-is_inside.outgoing } ≡ figures_of (memo_net s) m) (sym more) all.0;
+        feeding = feeding_added (memo_net s) (kept_by_sheet s.sheet.now) f.mask c.args.v c.requires.below k.feeding (get_or s.predecessors c.args.v 0) c.union.result c.include-mask.result c.difference-2.result c.union.type_inv c.include-mask.type_inv c.requires.right.feeding (s.edges c.args.v c.requires.place) c.union.ensures more c.difference-2.ensures;
+      };
     }
