@@ -1,5 +1,6 @@
 -- One cell of the two tables, and what offering candidates does to it.
 --   Cell                  a rating, and the choice that it comes from
+--   choice_of j w         the choice of a stage of kind w after ideal j
 --   cell_at s rs cs k     cell k of the ratings rs and the choices cs
 --   stands by c           a rating stands in the cell c of the ideal that the choice by names: its kind is not 0, or that ideal is the empty one
 --   lowered s r by c      the cell c after the candidate r, by the choice by, was held against it
@@ -10,6 +11,8 @@
 --   Turns s rs cs rs' cs' g   the two tables after a call, rs' and cs', are g of the tables before
 use Rattle.std.specs.Prelude.{◌≡◌, ℕ, ◌+◌, ◌-◌, Bool, cond, not, ◌&&◌, ◌||◌, List, ◌==◌, nat_le, nat_lt, slice_index_or}
 use Rattle.device.specs.Loads.{PlainLoad}
+use Rattle.device.specs.declared.which_kinds.WhichKind.{WhichKind}
+use Rattle.device.specs.WhichKinds.{kind_number}
 use Rattle.scale.specs.Rules.{Rules}
 use Rattle.cells.specs.declared.choices.Choice.{Choice}
 
@@ -19,6 +22,9 @@ pub record Cell (R : Type 0) : Type 0 where
 
 abbrev pub no_choice : Choice
 no_choice = record { ideal = 0; kind = 0 }
+
+abbrev pub choice_of : ℕ → WhichKind → Choice
+choice_of j w = record { ideal = j; kind = kind_number w }
 
 abbrev pub stands : {R : Type 0} → Choice → Cell R → Bool
 stands by c = by.ideal == 0 || not (c.choice.kind == 0)

@@ -1,2 +1,3 @@
 pub mod Cells
 pub mod Rows
+pub mod Tables

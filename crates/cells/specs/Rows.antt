@@ -4,12 +4,17 @@
 --   row l t table      the row that begins at place t
 --   first j x from     what the row from, of ideal j, makes of a cell at a and b, with a stage of kind 1 that has the load x, if any
 --   second             the same with kind 2
+--   on w               the same with kind w
 --   both               with kind 1, then kind 2
+--   runs_of k l w      from which cells, and how far, a stage on kind w leads on in a row
 --   Onto l n t g t₀ t₁ from t₀ to t₁ the first n lines of the row at t went by g, and no other cell changed
 use Rattle.std.specs.Prelude.{◌≡◌, ℕ, zero, suc, ◌+◌, ◌*◌, ◌<◌, ◌≤◌, Bool, ◌&&◌, Some, None, Option, nat_le}
 use Rattle.device.specs.Loads.{PlainLoad}
+use Rattle.device.specs.declared.which_kinds.WhichKind.{WhichKind}
+use Rattle.device.specs.declared.which_kinds.WhichKind.TheVariants.{First, Second}
 use Rattle.scale.specs.Rules.{Rules}
 use Rattle.cells.specs.declared.choices.Choice.{Choice}
+use Rattle.cells.specs.declared.rows.Runs.{Runs}
 use Rattle.cells.specs.Cells.{Cell, clear_cell, offered}
 
 abbrev pub width_of : ℕ → ℕ → ℕ
@@ -17,6 +22,10 @@ width_of k l = (k + 1) * (l + 1)
 
 abbrev pub place : ℕ → ℕ → ℕ → ℕ
 place l a b = a * (l + 1) + b
+
+abbrev pub runs_of : ℕ → ℕ → WhichKind → Runs
+runs_of k l First = record { count = 1; cells = k * (l + 1); step = l + 1 }
+runs_of k l Second = record { count = k + 1; cells = l; step = 1 }
 
 abbrev pub by_first : ℕ → Choice
 by_first j = record { ideal = j; kind = 1 }
@@ -39,6 +48,10 @@ module _ {R : Type 0} (s : Rules R) where
   abbrev pub second : ℕ → Option PlainLoad → (ℕ → ℕ → Cell R) → ℕ → ℕ → Cell R → Cell R
   second j x from a zero c = c
   second j x from a (suc b) c = tried (by_second j) x (from a b) c
+
+  abbrev pub on : WhichKind → ℕ → Option PlainLoad → (ℕ → ℕ → Cell R) → ℕ → ℕ → Cell R → Cell R
+  on First = first
+  on Second = second
 
   abbrev pub both : ℕ → Option PlainLoad → Option PlainLoad → (ℕ → ℕ → Cell R) → ℕ → ℕ → Cell R → Cell R
   both j x y from a b c = second j y from a b (first j x from a b c)

@@ -1,12 +1,12 @@
 // The cells of the two tables: a rating and a choice each. A row has the cells of one ideal.
 #![tactic(auto)]
 
-mod cells;
 mod choices;
-mod counts;
+mod row_errors;
 mod rows;
-mod widths;
+mod tables;
 
 pub use choices::Choice;
-pub use counts::Counts;
-pub use rows::{clear_row, offer_row};
+pub use row_errors::RowError;
+pub use rows::Rows;
+pub use tables::Tables;

@@ -1,131 +1,154 @@
 // A row offered to a row. The row of an ideal begins past those of the ideals before it.
-ghost use Rattle.std.specs.Prelude.{◌≡◌, ◌+◌, ◌≤◌, true, false, ◌&&◌, length, nat_le};
+ghost use Rattle.std.specs.Prelude.{◌≡◌, ◌+◌, ◌≤◌, nat_le, is_ok, OnOk, OnErr};
+ghost use Rattle.std.specs.Result.{result_err};
 ghost use Rattle.device.specs.Views.{answered};
-ghost use Rattle.cells.specs.Cells.{cell_at};
-ghost use Rattle.cells.specs.Rows.{width_of, row_fits, rows_fit, first, second, both, clear, row, Onto};
+ghost use Rattle.cells.specs.Rows.{width_of, runs_of, on, both, clear, row, Onto};
+ghost use Rattle.cells.specs.Tables.{table, HasCells, SameTables, holds_row, holds_rows, row_error, rows_error};
 
-use super::{Choice, Counts, cells};
-use device::Load;
+use super::{Choice, RowError, Tables};
+use device::{Load, WhichKind};
 use scale::Scale;
+use sheet::Counts;
 
-// With a stage of this load on kind 1.
-fn offer_first<S: Scale>(
-    scale: &S,
-    counts: Counts,
-    ratings: &mut [S::Rating],
-    choices: &mut [Choice],
-    from: usize,
-    to: usize,
-    ideal: u32,
-    load: &Option<Load>,
-)
-    requires apart { from + width_of counts.k counts.l ≤ to }
-    requires ratings { to + width_of counts.k counts.l ≤ length ratings.old }
-    requires choices { to + width_of counts.k counts.l ≤ length choices.old }
-    ensures { Onto counts.l (counts.k + 1) to (first (S.Scale.rules scale.now) ideal (answered load.now) (row counts.l from (cell_at (S.Scale.rules scale.now) ratings.old choices.old))) (cell_at (S.Scale.rules scale.now) ratings.old choices.old) (cell_at (S.Scale.rules scale.now) ratings.new choices.new) }
-{
-    if let Some(x) = load {
-        let line = counts.l as usize + 1;
-        let choice = Choice { ideal, kind: 1 };
-        cells::shift(
-            scale,
-            ratings,
-            choices,
-            from,
-            to + line,
-            counts.k as usize * line,
-            choice,
-            x,
-        );
-    }
+// How the rows of the cells lie, by the counts of devices, and how they are rated.
+#[derive(Drop)]
+pub struct Rows<'a, S> {
+    pub scale: &'a S,
+    pub counts: Counts,
 }
 
-// With a stage of this load on kind 2.
-fn offer_second<S: Scale>(
-    scale: &S,
-    counts: Counts,
-    ratings: &mut [S::Rating],
-    choices: &mut [Choice],
-    from: usize,
-    to: usize,
-    ideal: u32,
-    load: &Option<Load>,
-)
-    requires apart { from + width_of counts.k counts.l ≤ to }
-    requires ratings { to + width_of counts.k counts.l ≤ length ratings.old }
-    requires choices { to + width_of counts.k counts.l ≤ length choices.old }
-    ensures { Onto counts.l (counts.k + 1) to (second (S.Scale.rules scale.now) ideal (answered load.now) (row counts.l from (cell_at (S.Scale.rules scale.now) ratings.old choices.old))) (cell_at (S.Scale.rules scale.now) ratings.old choices.old) (cell_at (S.Scale.rules scale.now) ratings.new choices.new) }
-{
-    if let Some(x) = load {
-        let line = counts.l as usize + 1;
-        let choice = Choice { ideal, kind: 2 };
-        for a in 0..counts.k as usize + 1 {
-            cells::shift(
-                scale,
-                ratings,
-                choices,
-                from + a * line,
-                to + a * line + 1,
-                counts.l as usize,
-                choice,
-                x,
-            );
-        }
-    }
+// Where a stage leads on in a row: from `cells` cells at the beginning of each of the first `count` lines, each to the cell `step` further.
+#[derive(Clone, Copy)]
+struct Runs {
+    count: usize,
+    cells: usize,
+    step: usize,
 }
 
-// Whether a row of `width` cells that begins at `at` ends within `length` cells.
+// Whether a row of `width` cells that begins at `at` ends within `cells` cells.
 fn ends_within(at: usize, width: usize, cells: usize) -> bool
     ensures { result ≡ nat_le (at + width) cells }
 {
-    width <= cells && at <= cells - width
+    at.checked_add(width).is_some_and(|end| end <= cells)
 }
 
-// Offers the row at `from`, of an ideal, to the row at `to`: with a stage of the load `x` on kind 1, then with one of the load `y` on kind 2.
-// False, and nothing is changed, where the one does not end before the other begins, or that one not within the tables.
-pub fn offer_row<S: Scale>(
-    scale: &S,
-    counts: Counts,
-    ratings: &mut [S::Rating],
-    choices: &mut [Choice],
-    from: usize,
-    to: usize,
-    ideal: u32,
-    x: &Option<Load>,
-    y: &Option<Load>,
-) -> bool
-    ensures fits { result ≡ rows_fit from to (width_of counts.k counts.l) (length ratings.old) (length choices.old) }
-    ensures offers { result ≡ true → Onto counts.l (counts.k + 1) to (both (S.Scale.rules scale.now) ideal (answered x.now) (answered y.now) (row counts.l from (cell_at (S.Scale.rules scale.now) ratings.old choices.old))) (cell_at (S.Scale.rules scale.now) ratings.old choices.old) (cell_at (S.Scale.rules scale.now) ratings.new choices.new) }
-    ensures keeps { result ≡ false → (ratings.new ≡ ratings.old) × (choices.new ≡ choices.old) }
-{
-    let width = counts.width();
-    if !ends_within(from, width, to)
-        || !ends_within(to, width, ratings.len())
-        || !ends_within(to, width, choices.len())
+impl<'a, S: Scale> Rows<'a, S> {
+    // How many cells a line has.
+    fn line(&self) -> usize
+        ensures { result ≡ self.now.counts.l + 1 }
     {
-        return false;
+        self.counts.l as usize + 1
     }
-    offer_first(scale, counts, ratings, choices, from, to, ideal, x);
-    offer_second(scale, counts, ratings, choices, from, to, ideal, y);
-    true
-}
 
-// Clears the row at `at`. False, and nothing is changed, where it does not end within the tables.
-pub fn clear_row<S: Scale>(
-    scale: &S,
-    counts: Counts,
-    ratings: &mut [S::Rating],
-    choices: &mut [Choice],
-    at: usize,
-) -> bool
-    ensures fits { result ≡ row_fits at (width_of counts.k counts.l) (length ratings.old) (length choices.old) }
-    ensures clears { result ≡ true → Onto counts.l (counts.k + 1) at (clear (S.Scale.rules scale.now)) (cell_at (S.Scale.rules scale.now) ratings.old choices.old) (cell_at (S.Scale.rules scale.now) ratings.new choices.new) }
-    ensures keeps { result ≡ false → (ratings.new ≡ ratings.old) × (choices.new ≡ choices.old) }
-{
-    let width = counts.width();
-    if !ends_within(at, width, ratings.len()) || !ends_within(at, width, choices.len()) {
-        return false;
+    // How many cells a row has.
+    pub fn width(&self) -> usize
+        ensures { result ≡ width_of self.now.counts.k self.now.counts.l }
+    {
+        (self.counts.k as usize + 1) * self.line()
     }
-    cells::clear(scale, ratings, choices, at, width);
-    true
+
+    // The runs of a kind: one with which each line leads to the next, or one in each line, in which each cell leads to the next.
+    fn runs(&self, kind: WhichKind) -> Runs
+        ensures { result ≡ runs_of self.now.counts.k self.now.counts.l kind }
+    {
+        let k = self.counts.k as usize;
+        match kind {
+            WhichKind::First => Runs {
+                count: 1,
+                cells: k * self.line(),
+                step: self.line(),
+            },
+            WhichKind::Second => Runs {
+                count: k + 1,
+                cells: self.counts.l as usize,
+                step: 1,
+            },
+        }
+    }
+
+    // Offers the row at `from`, of an ideal, to the row at `to`, with a stage of this load on this kind.
+    fn offer_on(
+        &self,
+        tables: &mut Tables<'_, S::Rating>,
+        from: usize,
+        to: usize,
+        ideal: u32,
+        kind: WhichKind,
+        load: &Option<Load>,
+    )
+        requires apart { from + width_of self.now.counts.k self.now.counts.l ≤ to }
+        requires room { HasCells tables.old (to + width_of self.now.counts.k self.now.counts.l) }
+        ensures same { SameTables tables.old tables.new }
+        ensures offers { let s = S.Scale.rules self.now.scale.now in let before = table s tables.old in Onto self.now.counts.l (self.now.counts.k + 1) to (on s kind ideal (answered load.now) (row self.now.counts.l from before)) before (table s tables.new) }
+    {
+        let Some(load) = load else {
+            return;
+        };
+        let choice = Choice::of(ideal, kind);
+        let runs = self.runs(kind);
+        // the lines of a row by number, since they begin at its multiples in the two tables
+        for r in 0..runs.count {
+            let line = r * self.line();
+            tables.shift(
+                self.scale,
+                from + line,
+                to + line + runs.step,
+                runs.cells,
+                choice,
+                load,
+            );
+        }
+    }
+
+    // Looks whether a row at `at` ends within the tables.
+    fn check_room(&self, tables: &Tables<'_, S::Rating>, at: usize) -> Result<(), RowError>
+        ensures fits { is_ok result ≡ holds_row tables.now at (width_of self.now.counts.k self.now.counts.l) }
+        ensures refuses { result_err result ≡ row_error tables.now at (width_of self.now.counts.k self.now.counts.l) }
+    {
+        if !ends_within(at, self.width(), tables.ratings.len()) {
+            return Err(RowError::PastRatings);
+        }
+        if !ends_within(at, self.width(), tables.choices.len()) {
+            return Err(RowError::PastChoices);
+        }
+        Ok(())
+    }
+
+    // Offers the row at `from`, of an ideal, to the row at `to`: with a stage of the load `x` on kind 1, then with one of the load `y` on kind 2.
+    pub fn offer(
+        &self,
+        tables: &mut Tables<'_, S::Rating>,
+        from: usize,
+        to: usize,
+        ideal: u32,
+        x: &Option<Load>,
+        y: &Option<Load>,
+    ) -> Result<(), RowError>
+        ensures fits { is_ok result ≡ holds_rows tables.old from to (width_of self.now.counts.k self.now.counts.l) }
+        ensures refuses { result_err result ≡ rows_error tables.old from to (width_of self.now.counts.k self.now.counts.l) }
+        ensures same { SameTables tables.old tables.new }
+        ensures offers { let s = S.Scale.rules self.now.scale.now in let before = table s tables.old in OnOk result (Onto self.now.counts.l (self.now.counts.k + 1) to (both s ideal (answered x.now) (answered y.now) (row self.now.counts.l from before)) before (table s tables.new)) }
+        ensures keeps { OnErr result (tables.new ≡ tables.old) }
+    {
+        if !ends_within(from, self.width(), to) {
+            return Err(RowError::Overlaps);
+        }
+        self.check_room(tables, to)?;
+        self.offer_on(tables, from, to, ideal, WhichKind::First, x);
+        self.offer_on(tables, from, to, ideal, WhichKind::Second, y);
+        Ok(())
+    }
+
+    // Clears the row at `at`.
+    pub fn clear(&self, tables: &mut Tables<'_, S::Rating>, at: usize) -> Result<(), RowError>
+        ensures fits { is_ok result ≡ holds_row tables.old at (width_of self.now.counts.k self.now.counts.l) }
+        ensures refuses { result_err result ≡ row_error tables.old at (width_of self.now.counts.k self.now.counts.l) }
+        ensures same { SameTables tables.old tables.new }
+        ensures clears { let s = S.Scale.rules self.now.scale.now in OnOk result (Onto self.now.counts.l (self.now.counts.k + 1) at (clear s) (table s tables.old) (table s tables.new)) }
+        ensures keeps { OnErr result (tables.new ≡ tables.old) }
+    {
+        self.check_room(tables, at)?;
+        tables.clear(self.scale, at, self.width());
+        Ok(())
+    }
 }

@@ -1,0 +1,98 @@
+// One cell offered to another, and many to as many.
+ghost use Rattle.std.specs.Prelude.{◌≡◌, ◌+◌, ◌<◌, ◌≤◌, not, ◌||◌, ◌==◌};
+ghost use Rattle.device.specs.Views.{load_of};
+ghost use Rattle.cells.specs.Cells.{lowered, offered, poked, shifted, cleared};
+ghost use Rattle.cells.specs.Tables.{table, HasCells, SameTables, TablesTurn};
+
+use super::Choice;
+use device::Load;
+use scale::Scale;
+
+// The two tables that a caller lends, with one cell at each place: its rating and its choice.
+#[derive(Drop)]
+pub struct Tables<'a, R> {
+    pub ratings: &'a mut [R],
+    pub choices: &'a mut [Choice],
+}
+
+// Whether a candidate takes the place of what a cell holds: where nothing stands there, or what stands is not at most the candidate.
+fn is_lower<S: Scale>(scale: &S, held: S::Rating, choice: Choice, rating: S::Rating) -> bool
+    ensures { result ≡ (choice.kind == 0 || not ((S.Scale.rules scale.now).at_most held rating)) }
+{
+    choice.is_none() || !scale.is_at_most(held, rating)
+}
+
+// Whether a rating stands in a cell with the choice `held` of the ideal that `choice` names.
+fn is_standing(choice: Choice, held: Choice) -> bool
+    ensures { result ≡ (choice.ideal == 0 || not (held.kind == 0)) }
+{
+    choice.ideal == 0 || !held.is_none()
+}
+
+impl<'a, R: Copy> Tables<'a, R> {
+    // Holds a candidate against the cell `to`, and writes it there where it is less than what is there, or the first.
+    fn lower<S: Scale<Rating = R>>(&mut self, scale: &S, to: usize, rating: R, choice: Choice)
+        requires { HasCells self.old (to + 1) }
+        ensures same { SameTables self.old self.new }
+        ensures turns { let s = S.Scale.rules scale.now in TablesTurn s self.old self.new (poked s to (lowered s rating choice)) }
+    {
+        if is_lower(scale, self.ratings[to], self.choices[to], rating) {
+            self.ratings[to] = rating;
+            self.choices[to] = choice;
+        }
+    }
+
+    // Offers the cell `from` to the cell `to`, with one stage of this load more.
+    fn offer<S: Scale<Rating = R>>(
+        &mut self,
+        scale: &S,
+        from: usize,
+        to: usize,
+        choice: Choice,
+        load: &Load,
+    )
+        requires apart { from < to }
+        requires room { HasCells self.old (to + 1) }
+        ensures same { SameTables self.old self.new }
+        ensures turns { let s = S.Scale.rules scale.now in TablesTurn s self.old self.new (poked s to (offered s choice (load_of load.now) (table s self.old from))) }
+    {
+        if is_standing(choice, self.choices[from]) {
+            let rating = scale.join(self.ratings[from], load);
+            self.lower(scale, to, rating, choice);
+        }
+    }
+
+    // Offers the `count` cells from `from` on to those from `to` on.
+    pub(crate) fn shift<S: Scale<Rating = R>>(
+        &mut self,
+        scale: &S,
+        from: usize,
+        to: usize,
+        count: usize,
+        choice: Choice,
+        load: &Load,
+    )
+        requires apart { from + count ≤ to }
+        requires room { HasCells self.old (to + count) }
+        ensures same { SameTables self.old self.new }
+        ensures turns { let s = S.Scale.rules scale.now in TablesTurn s self.old self.new (shifted s choice (load_of load.now) from to count) }
+    {
+        // Place by place: of two slices that are written through a `zip`, a proof does not know what they hold afterwards.
+        for c in 0..count {
+            self.offer(scale, from + c, to + c, choice, load);
+        }
+    }
+
+    // Clears the `count` cells from `to` on.
+    pub(crate) fn clear<S: Scale<Rating = R>>(&mut self, scale: &S, to: usize, count: usize)
+        requires { HasCells self.old (to + count) }
+        ensures same { SameTables self.old self.new }
+        ensures turns { let s = S.Scale.rules scale.now in TablesTurn s self.old self.new (cleared s to count) }
+    {
+        let start = scale.start();
+        let end = to + count;
+        // of a rating it is known that it can be copied; `fill` asks that it be cloned without fail
+        self.ratings[to..end].fill_with(|| start);
+        self.choices[to..end].fill(Choice::NONE);
+    }
+}
