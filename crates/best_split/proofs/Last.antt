@@ -1,26 +1,14 @@
 -- The rating of a cell, by what both tables hold there.
-use Rattle.std.proofs.Common.{◌≡◌, ℕ, zero, suc, true, cond, Some, None, Option, sym, refl, ap, ◌∙◌, arith}
-use Rattle.recurrence.specs.Table.{KindNumber, one, two, number, Candidate, Setting, best, pick, rating_of}
+use Rattle.std.proofs.Common.{◌≡◌, ℕ, zero, suc, true, false, cond, eqb, Some, None, Option, sym, refl, ap, ◌∙◌}
+use Rattle.recurrence.specs.Table.{Candidate, Setting, best, pick, rating_of}
 use Rattle.recurrence.proofs.Plans.{best_via}
 use Rattle.cells.specs.declared.choices.Choice.{Choice}
 use Rattle.table_pass.specs.Filled.{chosen, or_start}
 
-number_some : (k : KindNumber) → number k ≡ 0 → ⊥
-number_some one z = omega arith
-number_some two z = omega arith
-
 module _ {R : Type 0} (e : Setting R) (bottom : (a b : ℕ) → e.bottom a b ≡ true) (a b : ℕ) where
-  rating_none : (o : Option (Candidate R)) → (chosen o).kind ≡ 0 → None ≡ rating_of o
-  rating_none None h = refl
-  rating_none (Some c) h = absurd (number_some c.kind h)
-
-  rating_some : (o : Option (Candidate R)) → ((chosen o).kind ≡ 0 → ⊥) → Some (or_start e.rules (rating_of o)) ≡ rating_of o
-  rating_some None h = absurd (h refl)
+  rating_some : (o : Option (Candidate R)) → eqb (chosen o).kind 0 ≡ false → Some (or_start e.rules (rating_of o)) ≡ rating_of o
+  rating_some None h = absurd (cc)
   rating_some (Some c) h = refl
-
-  pub best_none : (i : ℕ) (ch : Choice) → ch ≡ chosen (pick e a b i) → (i ≡ 0 → ⊥) → ch.kind ≡ 0 → None ≡ best e a b i
-  best_none zero ch q h z = absurd (h refl)
-  best_none (suc i) ch q h z = rating_none (pick e a b (suc i)) (rw q at z) ∙ sym (best_via e a b (suc i))
 
   best_bottom : (i : ℕ) → i ≡ 0 → best e a b i ≡ Some e.rules.start
   best_bottom i z = rw z (best_via e a b 0 ∙ ap (λ t. cond t (Some e.rules.start) None) (bottom a b))
@@ -28,7 +16,7 @@ module _ {R : Type 0} (e : Setting R) (bottom : (a b : ℕ) → e.bottom a b ≡
   pub best_first : (i : ℕ) (r : R) → r ≡ or_start e.rules (best e a b i) → i ≡ 0 → Some r ≡ best e a b i
   best_first i r q z = ap Some (q ∙ ap (or_start e.rules) (best_bottom i z)) ∙ sym (best_bottom i z)
 
-  pub best_some : (i : ℕ) (r : R) (ch : Choice) → r ≡ or_start e.rules (best e a b i) → ch ≡ chosen (pick e a b i) → (i ≡ 0 → ⊥) → (ch.kind ≡ 0 → ⊥) → Some r ≡ best e a b i
+  pub best_some : (i : ℕ) (r : R) (ch : Choice) → r ≡ or_start e.rules (best e a b i) → ch ≡ chosen (pick e a b i) → (i ≡ 0 → ⊥) → eqb ch.kind 0 ≡ false → Some r ≡ best e a b i
   best_some zero r ch q p h z = absurd (h refl)
   best_some (suc i) r ch q p h z =
       let v = best_via e a b (suc i) in

@@ -1,10 +1,13 @@
 -- What a cell's choice leads to.
-use Rattle.std.proofs.Common.{◌≡◌, ℕ, zero, suc, ◌+◌, ◌-◌, ◌*◌, ◌<◌, ◌≤◌, Bool, true, false, cond, List, [], ◌∷◌, ◌++◌, reverse, length, take, set, Some, None, Option, sym, refl, ap, ◌∙◌, mul_assoc, add-mul, arith}
+use Rattle.std.proofs.Common.{◌≡◌, ℕ, zero, suc, ◌+◌, ◌-◌, ◌*◌, ◌<◌, ◌≤◌, Bool, true, false, cond, leb, List, [], ◌∷◌, ◌++◌, length, drop, set, Some, None, Option, sym, refl, ap, ◌∙◌, mul_assoc, add-mul, arith}
 use lib.Bits.{bit_and}
-use Rattle.std.proofs.lemmas.List.{append_assoc, reverse-append, take_more_set}
-use Rattle.std.proofs.lemmas.Bool.{eqb-true}
+use Rattle.std.proofs.lemmas.List.{append_assoc, drop-set}
+use Rattle.std.proofs.lemmas.Bool.{and_parts, leb-true, eqb-true}
 use Rattle.std.proofs.lemmas.Nat.{and_le_r}
 use Rattle.device.specs.Loads.{PlainLoad}
+use Rattle.device.specs.declared.which_kinds.WhichKind.{WhichKind}
+use Rattle.device.specs.declared.which_kinds.WhichKind.TheVariants.{First, Second}
+use Rattle.device.specs.WhichKinds.{kind_of}
 use Rattle.cells.specs.declared.choices.Choice.{Choice}
 use Rattle.sets.specs.Sets.{inside}
 use Rattle.cells.specs.Rows.{width_of}
@@ -12,14 +15,23 @@ use Rattle.cells.proofs.RowSteps.{line_le}
 use Rattle.recurrence.specs.Table.{KindNumber, one, two, number, Candidate, Setting, ideal, lesser, offer, among, cut, best, less_one, less_two, pick}
 use Rattle.recurrence.specs.Stages.{traced, stages}
 use Rattle.recurrence.proofs.Links.{fewer_one, fewer_two, stages_via}
-use Rattle.table_pass.specs.Filled.{chosen, cell}
-use Rattle.best_split.specs.Traces.{stage_from, Leading}
+use Rattle.table_pass.specs.Filled.{cell, cells_of, cells_fit, chosen}
+use Rattle.best_split.specs.Traces.{stages_to, stage_between, Leading}
+use Rattle.best_split.specs.declared.places.Place.{Place}
 use Rattle.table_pass.proofs.Rows.{place_lt}
 use Rattle.split.specs.declared.stages.Stage.{Stage}
 
 -- a cell lies among the cells
-pub cell_lt : (k l n i a b m : ℕ) → i < n → a ≤ k → b ≤ l → n * width_of k l ≤ m → cell k l i a b < m
+cell_lt : (k l n i a b m : ℕ) → i < n → a ≤ k → b ≤ l → n * width_of k l ≤ m → cell k l i a b < m
 cell_lt k l n i a b m h h' h'' fit = omega (arith, add-mul (i * (k + 1)) a (l + 1), mul_assoc i (k + 1) (l + 1), line_le i n (width_of k l) h, place_lt k l a b (omega arith) h'')
+
+pub cell_in : (k l n i a b lr lc : ℕ) → i < n → a ≤ k → b ≤ l → cells_fit k l n lr lc ≡ true → (cell k l i a b < lr) × (cell k l i a b < lc)
+cell_in k l n i a b lr lc h h' h'' fit =
+    let both = and_parts (leb (cells_of k l n) lr) (leb (cells_of k l n) lc) fit in
+    let cells = mul_assoc n (k + 1) (l + 1) in
+    let lr_fits : n * width_of k l ≤ lr = omega (arith, leb-true (cells_of k l n) lr both.0) in
+    let lc_fits : n * width_of k l ≤ lc = omega (arith, leb-true (cells_of k l n) lc both.1) in
+    (cell_lt k l n i a b lr h h' h'' lr_fits, cell_lt k l n i a b lc h h' h'' lc_fits)
 
 -- a device of the kind is there
 abbrev pub Kept : KindNumber → ℕ → ℕ → Type 0
@@ -74,39 +86,44 @@ module _ {R : Type 0} (e : Setting R) where
   fewer_two_is a zero j h = absurd (omega arith)
   fewer_two_is a (suc b) j h = let q : b ≡ suc b - 1 = omega arith in ap (λ m. stages e a m j) q
 
-  leads_some : (a b i : ℕ) (k : KindNumber) (r : R) (j : ℕ) → Good e a b i i (Some (record { rating = r; origin = j; kind = k })) → stages e a b i ≡ traced e (fewer_one e a b) (fewer_two e a b) i (Some (record { rating = r; origin = j; kind = k })) → Leading e a b i (record { ideal = j; kind = number k })
-  leads_some a b i one r j q s = record {
+  leads_some : (at : Place) (k : KindNumber) (r : R) (j : ℕ) (w : WhichKind) → kind_of (number k) ≡ Some w → Good e at.a at.b at.i at.i (Some (record { rating = r; origin = j; kind = k }))
+      → stages_to e at ≡ traced e (fewer_one e at.a at.b) (fewer_two e at.a at.b) at.i (Some (record { rating = r; origin = j; kind = k })) → Leading e at j w
+  leads_some at one r j First n q s = record {
     inner = q.0;
-    less = omega (arith, q.1, and_le_r (ideal e j) (ideal e i));
-    first = λ _. (q.2, s ∙ ap (λ z. z ++ (stage_from e i (record { ideal = j; kind = 1 }) ∷ [])) (fewer_one_is a b j q.2));
-    second = λ no_one. absurd (no_one refl);
+    less = omega (arith, q.1, and_le_r (ideal e j) (ideal e at.i));
+    device = q.2;
+    are = s ∙ ap (λ z. z ++ (stage_between e j at.i First ∷ [])) (fewer_one_is at.a at.b j q.2);
   }
-  leads_some a b i two r j q s = record {
+  leads_some at two r j Second n q s = record {
     inner = q.0;
-    less = omega (arith, q.1, and_le_r (ideal e j) (ideal e i));
-    first = λ z. absurd (omega arith);
-    second = λ _. (q.2, s ∙ ap (λ z. z ++ (stage_from e i (record { ideal = j; kind = 2 }) ∷ [])) (fewer_two_is a b j q.2));
+    less = omega (arith, q.1, and_le_r (ideal e j) (ideal e at.i));
+    device = q.2;
+    are = s ∙ ap (λ z. z ++ (stage_between e j at.i Second ∷ [])) (fewer_two_is at.a at.b j q.2);
   }
+  leads_some at one r j Second n q s = absurd (cc)
+  leads_some at two r j First n q s = absurd (cc)
 
-  leads_at : (a b i : ℕ) (o : Option (Candidate R)) → pick e a b i ≡ o → Good e a b i i o → ((chosen o).kind ≡ 0 → ⊥) → Leading e a b i (chosen o)
-  leads_at a b i None q g h = absurd (h refl)
-  leads_at a b i (Some c) q g h = leads_some a b i c.kind c.rating c.origin g (stages_via e a b i ∙ ap (traced e (fewer_one e a b) (fewer_two e a b) i) q)
+  leads_at : (at : Place) (o : Option (Candidate R)) (w : WhichKind) → pick e at.a at.b at.i ≡ o → Good e at.a at.b at.i at.i o → kind_of (chosen o).kind ≡ Some w → Leading e at (chosen o).ideal w
+  leads_at at None w q g h = absurd (cc)
+  leads_at at (Some c) w q g h = leads_some at c.kind c.rating c.origin w h g (stages_via e at.a at.b at.i ∙ ap (traced e (fewer_one e at.a at.b) (fewer_two e at.a at.b) at.i) q)
 
-  pub leads : (a b i : ℕ) (ch : Choice) → ch ≡ chosen (pick e a b i) → (ch.kind ≡ 0 → ⊥) → Leading e a b i ch
-  leads a b i ch q h = rw q (leads_at a b i (pick e a b i) refl (good_among a b i i) (rw q at h))
+  pub leads : (at : Place) (ch : Choice) (w : WhichKind) → ch ≡ chosen (pick e at.a at.b at.i) → kind_of ch.kind ≡ Some w → Leading e at ch.ideal w
+  leads at ch w q h = rw q (leads_at at (pick e at.a at.b at.i) w refl (good_among at.a at.b at.i at.i) (rw q at h))
 
-  none_at : (a b i : ℕ) (o : Option (Candidate R)) → (chosen o).kind ≡ 0 → traced e (fewer_one e a b) (fewer_two e a b) i o ≡ []
+  kind_some : (k : KindNumber) → kind_of (number k) ≡ None → ⊥
+  kind_some one h = cc
+  kind_some two h = cc
+
+  none_at : (a b i : ℕ) (o : Option (Candidate R)) → kind_of (chosen o).kind ≡ None → traced e (fewer_one e a b) (fewer_two e a b) i o ≡ []
   none_at a b i None h = refl
-  none_at a b i (Some c) h = absurd (go c.kind h) where
-    go : (k : KindNumber) → number k ≡ 0 → ⊥
-    go one z = omega arith
-    go two z = omega arith
+  none_at a b i (Some c) h = absurd (kind_some c.kind h)
 
-  pub leads_none : (a b i : ℕ) (ch : Choice) → ch ≡ chosen (pick e a b i) → ch.kind ≡ 0 → stages e a b i ≡ []
-  leads_none a b i ch q h = stages_via e a b i ∙ none_at a b i (pick e a b i) (rw q at h)
+  pub leads_none : (at : Place) (ch : Choice) → ch ≡ chosen (pick e at.a at.b at.i) → kind_of ch.kind ≡ None → stages_to e at ≡ []
+  leads_none at ch q h = stages_via e at.a at.b at.i ∙ none_at at.a at.b at.i (pick e at.a at.b at.i) (rw q at h)
 
 -- one stage more is read back
-pub back_more : (all xs ys out : List Stage) (n : ℕ) (s : Stage) → n < length out → all ≡ xs ++ reverse (take n out) → xs ≡ ys ++ (s ∷ []) → all ≡ ys ++ reverse (take (n + 1) (set out n s))
-back_more all xs ys out n s h e q =
-    e ∙ ap (λ z. z ++ reverse (take n out)) q ∙ append_assoc ys (s ∷ []) (reverse (take n out))
-    ∙ ap (λ z. ys ++ z) (sym (reverse-append (take n out) (s ∷ []))) ∙ ap (λ z. ys ++ reverse z) (sym (take_more_set out n s h))
+pub back_more : (all xs ys out : List Stage) (n : ℕ) (s : Stage) → 0 < n → n ≤ length out → all ≡ xs ++ drop n out → xs ≡ ys ++ (s ∷ []) → all ≡ ys ++ drop (n - 1) (set out (n - 1) s)
+back_more all xs ys out n s some h e q =
+    let lt : n - 1 < length out = omega arith in
+    let next : n ≡ n - 1 + 1 = omega arith in
+    e ∙ ap (λ z. z ++ drop n out) q ∙ append_assoc ys (s ∷ []) (drop n out) ∙ ap (λ m. ys ++ (s ∷ drop m out)) next ∙ ap (λ z. ys ++ z) (sym (drop-set out (n - 1) s lt))

@@ -16,7 +16,8 @@ use Rattle.recurrence.specs.Planned.{setting_over, setting, best_of, split_of, P
 use Rattle.cells.specs.declared.choices.Choice.{Choice}
 use Rattle.best_split.specs.declared.finds.Found.{Found}
 use Rattle.best_split.specs.Views.{stages_of}
-use Rattle.best_split.specs.Finds.{cells_fit, Solves, Finds}
+use Rattle.table_pass.specs.Filled.{cells_fit}
+use Rattle.best_split.specs.Finds.{Solves, Finds}
 
 count_is : (most n m : ℕ) → Some m ≡ fitting most n → (m ≡ n) × (n ≤ most)
 count_is most n m e = go (leb n most) refl e
@@ -62,7 +63,7 @@ module _ {R : Type 0} (n : Net) (e : Kinds) (s : Rules R) (planned : Planned n e
   least_of (Ok f) h = subst (λ (ss : List Stage). Least n e s ss f.rating) (sym h.1) (planned.least f.rating h.0)
   least_of (Err x) h = tt
 
-  pub finds_solved : (r : Result (Found R) Refusal) → few ≡ true → ms' ≡ over (take (room (length ms)) (ideals n)) ms → Solves (setting n e s) n.k n.l rs cs rs' cs' r → Finds n e s ms ms' rs cs rs' cs' r
+  finds_solved : (r : Result (Found R) Refusal) → few ≡ true → ms' ≡ over (take (room (length ms)) (ideals n)) ms → Solves (setting n e s) n.k n.l rs cs rs' cs' r → Finds n e s ms ms' rs cs rs' cs' r
   finds_solved r fits listed d =
       let refuses : outcome r ≡ three few fit (is_some (best_of n e s)) = d.refuses ∙ ap (λ t. three t fit (is_some (best_of n e s))) (sym fits) in
       record {

@@ -1,71 +1,38 @@
--- What is left of each way through finding a split.
-use Rattle.std.proofs.Common.{◌≡◌, ℕ, ◌+◌, ◌*◌, ◌≤◌, true, false, leb, List, length, is_some, Some, None, Ok, Err, Option, sym, refl, ap, ◌∙◌, mul_assoc, arith}
-use Rattle.std.proofs.lemmas.Bool.{and_parts, le-leb, leb-true, both_ways}
+-- What is left where a split is found.
+use Rattle.std.proofs.Common.{◌≡◌, ℕ, ◌≤◌, Bool, true, false, List, [], length, is_some, Some, Ok, sym, refl, ap, ◌∙◌}
+use Rattle.std.proofs.lemmas.Bool.{le-leb, both_ways}
 use Rattle.refusals.specs.declared.Refusal.TheVariants.{TooFewCells, NoLawfulSplit}
+use Rattle.refusals.specs.declared.Refusal.{Refusal}
 use Rattle.refusals.specs.Told.{told}
+use Rattle.refusals.proofs.Tellings.{told_something}
 use Rattle.sheet.specs.Changes.{unless, first}
-use Rattle.split.specs.declared.stages.Stage.{Stage}
 use Rattle.ideals.specs.Ideals.{most_ideals}
 use Rattle.recurrence.specs.Table.{Setting, best}
 use Rattle.recurrence.specs.Stages.{stages}
 use Rattle.cells.specs.declared.choices.Choice.{Choice}
-use Rattle.cells.specs.Rows.{width_of}
-use Rattle.table_pass.specs.Filled.{cells_of, suffices, Passed}
+use Rattle.table_pass.specs.Filled.{cells_fit, fill_refusal, Passed}
 use Rattle.best_split.specs.declared.finds.Found.{Found}
 use Rattle.best_split.specs.Views.{stages_of}
-use Rattle.best_split.specs.Traces.{Rated, Chose}
-use Rattle.best_split.specs.Finds.{cells_fit, fit, last, Solves}
+use Rattle.best_split.specs.Finds.{fit, last, Solves}
 
--- of few ideals, only the cells are tested
-pub fit_is : (k l n lr lc : ℕ) → n ≤ most_ideals → suffices k l n lr lc ≡ cells_fit k l n lr lc
-fit_is k l n lr lc h = rw (le-leb n most_ideals h) refl
+-- of few ideals only the cells are tested
+fit_by_refusal : (n k l lr lc : ℕ) → n ≤ most_ideals → fill_refusal k l n lr lc ≡ unless (cells_fit k l n lr lc) (told TooFewCells)
+fit_by_refusal n k l lr lc few = rw (le-leb n most_ideals few) refl
 
--- rows of the counts k' and l', which are k and l
-pub rows_in : (k l k' l' n lr lc : ℕ) → k' ≡ k → l' ≡ l → cells_fit k l n lr lc ≡ true → (n * width_of k' l' ≤ lr) × (n * width_of k' l' ≤ lc)
-rows_in k l k' l' n lr lc ek el h =
-    let both = and_parts (leb (cells_of k l n) lr) (leb (cells_of k l n) lc) h in
-    let cells = mul_assoc n (k + 1) (l + 1) in
-    rw (ek, el) (omega (arith, leb-true (cells_of k l n) lr both.0), omega (arith, leb-true (cells_of k l n) lc both.1))
+unless_nothing : (b : Bool) (e : Refusal) → unless b (told e) ≡ [] → b ≡ true
+unless_nothing true e h = refl
+unless_nothing false e h = absurd (told_something e h)
 
-module _ {R : Type 0} (e : Setting R) (k l k' l' : ℕ) (ek : k' ≡ k) (el : l' ≡ l) (rs rs' : List R) (cs cs' : List Choice) (p : Passed e k l rs cs rs' cs') where
-  pub rated_at : Rated e k' l' rs'
-  rated_at = rw (ek, el) p.ratings
+pub fit_granted : (n k l lr lc : ℕ) → n ≤ most_ideals → [] ≡ fill_refusal k l n lr lc → cells_fit k l n lr lc ≡ true
+fit_granted n k l lr lc few h = unless_nothing (cells_fit k l n lr lc) TooFewCells (sym (h ∙ fit_by_refusal n k l lr lc few))
 
-  pub chose_at : Chose e k' l' cs'
-  chose_at = rw (ek, el) p.choices
-
-pub best_at : {R : Type 0} (e : Setting R) (k l k' l' i : ℕ) → k' ≡ k → l' ≡ l → (o : Option R) → o ≡ best e k' l' i → o ≡ best e k l i
-best_at e k l k' l' i ek el o h = h ∙ ap (λ z. best e z l' i) ek ∙ ap (λ z. best e k z i) el
-
-pub stages_at : {R : Type 0} (e : Setting R) (k l k' l' i : ℕ) → k' ≡ k → l' ≡ l → (ss : List Stage) → ss ≡ stages e k' l' i → ss ≡ stages e k l i
-stages_at e k l k' l' i ek el ss h = h ∙ ap (λ z. stages e z l' i) ek ∙ ap (λ z. stages e k z i) el
-
-module _ {R : Type 0} (e : Setting R) (k l : ℕ) (rs rs' : List R) (cs cs' : List Choice) where
-  pub solves_short : fit e k l rs cs rs' cs' ≡ false → rs' ≡ rs → cs' ≡ cs → Solves e k l rs cs rs' cs' (Err TooFewCells)
-  solves_short h er ec = record {
-    refuses = ap (λ t. first (unless t (told TooFewCells)) (unless (is_some (best e k l (last e k l rs cs rs' cs'))) (told NoLawfulSplit))) (sym h);
-    keeps = λ _. (er, ec);
-    fills = λ t. absurd (both_ways (fit e k l rs cs rs' cs') h t);
-    answers = tt;
+module _ {R : Type 0} (e : Setting R) (k l : ℕ) (rs rs' : List R) (cs cs' : List Choice) (fits : fit e k l rs cs rs' cs' ≡ true) (p : Passed e k l rs cs rs' cs') where
+  pub solves_some : (f : Found R) → Some f.rating ≡ best e k l (last e k l rs cs rs' cs') → stages_of f.split ≡ stages e k l (last e k l rs cs rs' cs') → f.ideals ≡ length e.ideals → Solves e k l rs cs rs' cs' (Ok f)
+  solves_some f q s n = record {
+    refuses =
+        ap (λ o. unless (is_some o) (told NoLawfulSplit)) q
+        ∙ ap (λ t. first (unless t (told TooFewCells)) (unless (is_some (best e k l (last e k l rs cs rs' cs'))) (told NoLawfulSplit))) (sym fits);
+    keeps = λ t. absurd (both_ways (fit e k l rs cs rs' cs') t fits);
+    fills = λ _. p;
+    answers = (sym q, s, n);
   }
-
-  module _ (fits : fit e k l rs cs rs' cs' ≡ true) (p : Passed e k l rs cs rs' cs') where
-    pub solves_none : None ≡ best e k l (last e k l rs cs rs' cs') → Solves e k l rs cs rs' cs' (Err NoLawfulSplit)
-    solves_none q = record {
-      refuses =
-          ap (λ o. unless (is_some o) (told NoLawfulSplit)) q
-          ∙ ap (λ t. first (unless t (told TooFewCells)) (unless (is_some (best e k l (last e k l rs cs rs' cs'))) (told NoLawfulSplit))) (sym fits);
-      keeps = λ f. absurd (both_ways (fit e k l rs cs rs' cs') f fits);
-      fills = λ _. p;
-      answers = tt;
-    }
-
-    pub solves_some : (f : Found R) → Some f.rating ≡ best e k l (last e k l rs cs rs' cs') → stages_of f.split ≡ stages e k l (last e k l rs cs rs' cs') → f.ideals ≡ length e.ideals → Solves e k l rs cs rs' cs' (Ok f)
-    solves_some f q s n = record {
-      refuses =
-          ap (λ o. unless (is_some o) (told NoLawfulSplit)) q
-          ∙ ap (λ t. first (unless t (told TooFewCells)) (unless (is_some (best e k l (last e k l rs cs rs' cs'))) (told NoLawfulSplit))) (sym fits);
-      keeps = λ t. absurd (both_ways (fit e k l rs cs rs' cs') t fits);
-      fills = λ _. p;
-      answers = (sym q, s, n);
-    }

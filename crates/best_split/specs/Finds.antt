@@ -1,5 +1,4 @@
 -- What finding a least split answers and leaves, for every sheet, kinds, scale and tables.
---   cells_fit        the cells of n ideals are not more than the ratings and the choices
 --   tables_suffice   the three tables take all ideals and their cells
 --   find_refusal     why no split is found: too many ideals, then too few cells, then no lawful split
 use Rattle.std.specs.Prelude.{◌≡◌, ℕ, ◌-◌, Bool, true, false, ◌&&◌, List, length, take, is_some, is_ok, IfOk, Some, Result, nat_le}
@@ -16,12 +15,9 @@ use Rattle.recurrence.specs.Table.{Setting, best}
 use Rattle.recurrence.specs.Stages.{stages}
 use Rattle.recurrence.specs.Planned.{setting, best_of, split_of}
 use Rattle.cells.specs.declared.choices.Choice.{Choice}
-use Rattle.table_pass.specs.Filled.{cells_of, Passed}
+use Rattle.table_pass.specs.Filled.{cells_fit, Passed}
 use Rattle.best_split.specs.declared.finds.Found.{Found}
 use Rattle.best_split.specs.Views.{stages_of}
-
-abbrev pub cells_fit : ℕ → ℕ → ℕ → ℕ → ℕ → Bool
-cells_fit k l n ratings choices = nat_le (cells_of k l n) ratings && nat_le (cells_of k l n) choices
 
 -- the same for any list of ideals, e having the list
 module _ {R : Type 0} (e : Setting R) (k l : ℕ) (rs : List R) (cs : List Choice) (rs' : List R) (cs' : List Choice) where

@@ -1,3 +1,4 @@
 pub mod Views
 pub mod Traces
+pub mod Tables
 pub mod Finds

@@ -1,10 +1,10 @@
 // A least split of a sheet: the ideals are listed, the cells filled, and the stages read back.
 #![tactic(auto)]
 
+mod filled_tables;
 mod finds;
-mod read_backs;
+mod places;
 mod splits;
-mod views;
 
 pub use finds::{Found, find};
 pub use splits::Split;

@@ -1,2 +1,3 @@
 pub mod Offers
 pub mod Rows
+pub mod Same

@@ -13,7 +13,7 @@ use Rattle.table_pass.specs.Filled.{shown}
 abbrev by : ℕ → KindNumber → Choice
 by j k = record { ideal = j; kind = number k }
 
-number_some : (k : KindNumber) → eqb (number k) 0 ≡ false
+pub number_some : (k : KindNumber) → eqb (number k) 0 ≡ false
 number_some one = refl
 number_some two = refl
 

@@ -1,17 +1,19 @@
 -- The rows of the tables, one after the other, are as the recurrence has them.
-use Rattle.std.proofs.Common.{◌≡◌, ℕ, zero, suc, ◌+◌, ◌-◌, ◌*◌, ◌<◌, ◌≤◌, Bool, true, false, cond, leb, ◌⊎◌, List, length, get_or, drop, Some, None, Option, sym, refl, ap, ◌∙◌, subst, inl, inr, ⊎_elim, mul_assoc, add-mul, add-one, arith}
+use Rattle.std.proofs.Common.{◌≡◌, ℕ, zero, suc, ◌+◌, ◌-◌, ◌*◌, ◌<◌, ◌≤◌, Bool, true, false, cond, leb, ◌⊎◌, List, [], length, get_or, drop, Some, None, Option, sym, refl, ap, ◌∙◌, inl, inr, ⊎_elim, mul_assoc, add-mul, add-one, arith}
 use Rattle.std.proofs.lemmas.List.{ext_get_or, get_or-drop, length-drop}
 use Rattle.std.proofs.lemmas.Bool.{cases_eq, cond-true, le-leb, lt-leb, and_from, and_left, and_right}
 use Rattle.device.specs.Loads.{PlainLoad}
+use Rattle.refusals.specs.declared.Refusal.TheVariants.{TooFewCells}
+use Rattle.refusals.specs.Told.{told}
 use Rattle.scale.specs.Rules.{Rules}
 use Rattle.recurrence.specs.Table.{one, two, Candidate, Setting, among, cut, best, via, pick, less_one, less_two, rating_of}
 use Rattle.ideals.specs.Ideals.{most_ideals}
 use Rattle.recurrence.proofs.Links.{best_via}
 use Rattle.cells.specs.declared.choices.Choice.{Choice}
 use Rattle.cells.specs.Cells.{Cell, no_choice, cell_at, clear_cell}
-use Rattle.cells.specs.Rows.{width_of, place, row, both, clear, Onto, row_fits, rows_fit}
+use Rattle.cells.specs.Rows.{width_of, place, row, both, Onto, row_fits, rows_fit}
 use Rattle.cells.proofs.RowSteps.{line_le}
-use Rattle.table_pass.specs.Filled.{shown, chosen, reached, or_start, cell, cells_of, suffices, Passed, Filled}
+use Rattle.table_pass.specs.Filled.{shown, chosen, reached, or_start, cell, cells_of, cells_fit, fill_refusal, Passed, Filled}
 use Rattle.table_pass.proofs.Offers.{both_is}
 
 -- a place of a row lies in it
@@ -28,28 +30,16 @@ module _ {R : Type 0} (e : Setting R) (bottom : (a b : ℕ) → e.bottom a b ≡
   abbrev Row : ℕ → (ℕ → ℕ → Cell R → Cell R) → (ℕ → Cell R) → (ℕ → Cell R) → Type 0
   Row i g t₀ t₁ = Onto l (k + 1) (i * width_of k l) g t₀ t₁
 
-  -- a row that was cleared has what no ideal was offered to
-  pub row_cleared : (i w : ℕ) (t₀ t₁ : ℕ → Cell R) → w ≡ width_of k l → Onto l (k + 1) (i * w) (clear e.rules) t₀ t₁ → Row i (reached e i 0) t₀ t₁
-  row_cleared i w t₀ t₁ q h =
-      let o = subst (λ (z : ℕ). Onto l (k + 1) (i * z) (clear e.rules) t₀ t₁) q h in
-      record { here = o.here; below = o.below; above = o.above }
-
-  pub row_here : (i n : ℕ) (t₀ t₁ : ℕ → Cell R) → Row i (reached e i n) t₀ t₁ → Row i (reached e i n) t₁ t₁
-  row_here i n t₀ t₁ o = record { here = o.here; below = λ c _. refl; above = λ c _. refl }
-
-  pub row_then : (i m n : ℕ) (t₀ t₁ t₂ : ℕ → Cell R) → Row i (reached e i m) t₀ t₁ → Row i (reached e i n) t₁ t₂ → Row i (reached e i n) t₀ t₂
-  row_then i m n t₀ t₁ t₂ o p = record { here = p.here; below = λ c h. p.below c h ∙ o.below c h; above = λ c h. p.above c h ∙ o.above c h }
-
-  -- one ideal more was offered to the row; t₀ is the table before the row was cleared, and t₁ after
-  pub row_more : (i j : ℕ) (x y : Option PlainLoad) (t₀ t₁ t₂ t₃ : ℕ → Cell R) → j < i → ((a b : ℕ) → cut e one a b i j ≡ x) → ((a b : ℕ) → cut e two a b i j ≡ y) → Filled e k l i t₀
-      → Row i (reached e i 0) t₀ t₁ → Row i (reached e i j) t₁ t₂ → Row i (both e.rules j x y (row l (j * width_of k l) t₂)) t₂ t₃ → Row i (reached e i (j + 1)) t₁ t₃
-  row_more i j x y t₀ t₁ t₂ t₃ lt ex ey filled o p q = record {
+  -- one ideal more was offered to the row; t₀ is the table before the row was cleared
+  pub row_more : (i j : ℕ) (x y : Option PlainLoad) (t₀ t₁ t₂ : ℕ → Cell R) → j < i → ((a b : ℕ) → cut e one a b i j ≡ x) → ((a b : ℕ) → cut e two a b i j ≡ y) → Filled e k l i t₀
+      → Row i (reached e i j) t₀ t₁ → Row i (both e.rules j x y (row l (j * width_of k l) t₁)) t₁ t₂ → Row i (reached e i (j + 1)) t₀ t₂
+  row_more i j x y t₀ t₁ t₂ lt ex ey filled p q = record {
     here = λ a b h h'.
         q.here a b h h'
-        ∙ ap (λ z. both e.rules j x y (row l (j * width_of k l) t₂) a b z) (p.here a b h h')
-        ∙ ap (λ z. both e.rules j z y (row l (j * width_of k l) t₂) a b (reached e i j a b (clear_cell e.rules))) (sym (ex a b))
-        ∙ ap (λ z. both e.rules j (cut e one a b i j) z (row l (j * width_of k l) t₂) a b (reached e i j a b (clear_cell e.rules))) (sym (ey a b))
-        ∙ both_is e bottom (k + 1) l j (row l (j * width_of k l) t₂) right (cut e one a b i j) (cut e two a b i j) a b (among e.rules (less_one e a b) (less_two e a b) (cut e one a b i) (cut e two a b i) j) h h'
+        ∙ ap (λ z. both e.rules j x y (row l (j * width_of k l) t₁) a b z) (p.here a b h h')
+        ∙ ap (λ z. both e.rules j z y (row l (j * width_of k l) t₁) a b (reached e i j a b (clear_cell e.rules))) (sym (ex a b))
+        ∙ ap (λ z. both e.rules j (cut e one a b i j) z (row l (j * width_of k l) t₁) a b (reached e i j a b (clear_cell e.rules))) (sym (ey a b))
+        ∙ both_is e bottom (k + 1) l j (row l (j * width_of k l) t₁) right (cut e one a b i j) (cut e two a b i j) a b (among e.rules (less_one e a b) (less_two e a b) (cut e one a b i) (cut e two a b i) j) h h'
         ∙ ap (λ n. reached e i n a b (clear_cell e.rules)) (sym (add-one j));
     below = λ c h. q.below c h ∙ p.below c h;
     above = λ c h. q.above c h ∙ p.above c h;
@@ -58,11 +48,8 @@ module _ {R : Type 0} (e : Setting R) (bottom : (a b : ℕ) → e.bottom a b ≡
       under : (a b : ℕ) → a < k + 1 → b ≤ l → j * width_of k l + place l a b < i * width_of k l
       under a b h h' = omega (arith, line_le j i (width_of k l) lt, place_lt k l a b h h')
 
-      right : (a b : ℕ) → a < k + 1 → b ≤ l → t₂ (j * width_of k l + place l a b) ≡ shown e.rules (pick e a b j)
-      right a b h h' = p.below _ (under a b h h') ∙ o.below _ (under a b h h') ∙ filled j a b lt h h'
-
-  pub filled_none : (t : ℕ → Cell R) → Filled e k l 0 t
-  filled_none t i a b h _ _ = absurd (omega (arith, h))
+      right : (a b : ℕ) → a < k + 1 → b ≤ l → t₁ (j * width_of k l + place l a b) ≡ shown e.rules (pick e a b j)
+      right a b h h' = p.below _ (under a b h h') ∙ filled j a b lt h h'
 
   pub filled_more : (i : ℕ) (t₁ t₂ : ℕ → Cell R) → Filled e k l i t₁ → Row i (reached e i i) t₁ t₂ → Filled e k l (i + 1) t₂
   filled_more i t₁ t₂ f o i' a b h m m' = ⊎_elim
@@ -107,41 +94,44 @@ module _ {R : Type 0} (e : Setting R) (bottom : (a b : ℕ) → e.bottom a b ≡
       more_choices = rest no_choice cs cs' lc (λ c h. ap (λ z. z.choice) (beyond c (omega (arith, cells_are k l (length e.ideals)))));
     }
 
--- loads that are what a cut asks for, in rows of w cells
-pub offered_cut : {R : Type 0} (s : Rules R) (j : ℕ) (x x' y y' : Option PlainLoad) (i k l w : ℕ) (t₀ t₁ : ℕ → Cell R) → w ≡ width_of k l → x' ≡ x → y' ≡ y
-    → Onto l (k + 1) (i * w) (both s j x' y' (row l (j * w) t₀)) t₀ t₁ → Onto l (k + 1) (i * width_of k l) (both s j x y (row l (j * width_of k l) t₀)) t₀ t₁
-offered_cut s j x x' y y' i k l w t₀ t₁ ew ex ey o =
-    subst (λ (z : ℕ). Onto l (k + 1) (i * z) (both s j x y (row l (j * z) t₀)) t₀ t₁) ew
-    (subst (λ (z : Option PlainLoad). Onto l (k + 1) (i * w) (both s j x z (row l (j * w) t₀)) t₀ t₁) ey
-    (subst (λ (z : Option PlainLoad). Onto l (k + 1) (i * w) (both s j z y' (row l (j * w) t₀)) t₀ t₁) ex o))
+-- loads that are what a cut asks for, offered to the rows at these places
+pub offered_cut : {R : Type 0} (s : Rules R) (j : ℕ) (x x' y y' : Option PlainLoad) (k l from from' to to' : ℕ) (t₀ t₁ : ℕ → Cell R) → from' ≡ from → to' ≡ to → x' ≡ x → y' ≡ y
+    → Onto l (k + 1) to' (both s j x' y' (row l from' t₀)) t₀ t₁ → Onto l (k + 1) to (both s j x y (row l from t₀)) t₀ t₁
+offered_cut s j x x' y y' k l from from' to to' t₀ t₁ ef et ex ey o = rw (← ef, ← et, ← ex, ← ey) o
 
 -- the answer for a cut between an ideal and one that it lies in
 pub cut_asked : (test : Bool) (answer load : Option PlainLoad) → test ≡ true → load ≡ answer → load ≡ cond test answer None
 cut_asked test answer load h e = e ∙ sym (cond-true test answer None h)
 
-pub row_fits_in : (i n w v lr lc : ℕ) → w ≡ v → i < n → n * v ≤ lr → n * v ≤ lc → row_fits (i * w) v lr lc ≡ true
-row_fits_in i n w v lr lc e h fr fc =
+pub row_fits_in : (i n to v lr lc : ℕ) → to ≡ i * v → i < n → n * v ≤ lr → n * v ≤ lc → row_fits to v lr lc ≡ true
+row_fits_in i n to v lr lc e h fr fc =
     rw e (and_from _ _ (le-leb (i * v + v) lr (omega (arith, line_le i n v h))) (le-leb (i * v + v) lc (omega (arith, line_le i n v h))))
 
-pub rows_fit_in : (i j n w v lr lc : ℕ) → w ≡ v → j < i → i < n → n * v ≤ lr → n * v ≤ lc → rows_fit (j * w) (i * w) v lr lc ≡ true
-rows_fit_in i j n w v lr lc e h h' fr fc =
-    and_from _ _ (rw e (le-leb (j * v + v) (i * v) (line_le j i v h))) (row_fits_in i n w v lr lc e h' fr fc)
+pub rows_fit_in : (i j n from to v lr lc : ℕ) → from ≡ j * v → to ≡ i * v → j < i → i < n → n * v ≤ lr → n * v ≤ lc → rows_fit from to v lr lc ≡ true
+rows_fit_in i j n from to v lr lc ef et h h' fr fc =
+    and_from _ _ (rw (ef, et) (le-leb (j * v + v) (i * v) (line_le j i v h))) (row_fits_in i n to v lr lc et h' fr fc)
 
--- ---- whether the tables suffice, tested by rows of w cells for the counts k and l
+-- ---- whether the cells fit, tested by rows of w cells for the counts k and l
 
 module _ (k l n w lr lc : ℕ) (e : w ≡ width_of k l) where
   width_cells : n * w ≡ cells_of k l n
   width_cells = ap (λ z. n * z) e ∙ sym (cells_are k l n)
 
-  pub suffices_so : n ≤ most_ideals → n * w ≤ lr → n * w ≤ lc → suffices k l n lr lc ≡ true
-  suffices_so few fr fc =
+  pub cells_fit_so : n * w ≤ lr → n * w ≤ lc → cells_fit k l n lr lc ≡ true
+  cells_fit_so fr fc =
       let q = width_cells in
-      and_from _ _ (le-leb n most_ideals few) (and_from _ _ (le-leb (cells_of k l n) lr (omega arith)) (le-leb (cells_of k l n) lc (omega arith)))
+      and_from _ _ (le-leb (cells_of k l n) lr (omega arith)) (le-leb (cells_of k l n) lc (omega arith))
 
-  pub suffices_not : (lr < n * w) ⊎ ((n * w ≤ lr) × (lc < n * w)) → suffices k l n lr lc ≡ false
-  suffices_not (inl h) =
+  pub cells_fit_not : (lr < n * w) ⊎ ((n * w ≤ lr) × (lc < n * w)) → cells_fit k l n lr lc ≡ false
+  cells_fit_not (inl h) =
       let q = width_cells in
-      and_right (leb n most_ideals) _ (and_left (leb (cells_of k l n) lr) (leb (cells_of k l n) lc) (lt-leb (cells_of k l n) lr (omega arith)))
-  suffices_not (inr h) =
+      and_left (leb (cells_of k l n) lr) (leb (cells_of k l n) lc) (lt-leb (cells_of k l n) lr (omega arith))
+  cells_fit_not (inr h) =
       let q = width_cells in
-      and_right (leb n most_ideals) _ (and_right (leb (cells_of k l n) lr) (leb (cells_of k l n) lc) (lt-leb (cells_of k l n) lc (omega (arith, h.1))))
+      and_right (leb (cells_of k l n) lr) _ (lt-leb (cells_of k l n) lc (omega (arith, h.1)))
+
+  pub fill_granted : n ≤ most_ideals → n * w ≤ lr → n * w ≤ lc → fill_refusal k l n lr lc ≡ []
+  fill_granted few fr fc = rw (le-leb n most_ideals few, cells_fit_so fr fc) refl
+
+  pub fill_short : n ≤ most_ideals → (lr < n * w) ⊎ ((n * w ≤ lr) × (lc < n * w)) → fill_refusal k l n lr lc ≡ told TooFewCells
+  fill_short few short = rw (le-leb n most_ideals few, cells_fit_not short) refl

@@ -1,12 +1,17 @@
 -- What the two tables hold.
 --   cell k l i a b     where the cell of ideal i with a devices of kind 1 and b of kind 2 stands
 --   cells_of k l n     how many cells n ideals have
+--   cells_fit          the cells of n ideals are not more than the ratings and the choices
+--   fill_refusal       why the cells of n ideals are not filled: too many ideals, then too few cells
 --   chosen c           the choice that a candidate is written as, ideal 0 and kind 0 where there is none
 --   shown s c          the cell that a candidate is written as: its rating, or start where there is none
 --   reached e i n      the cell of ideal i after the first n ideals were offered to it
 --   Filled e k l n t   the rows of the first n ideals are as the recurrence has them
 --   Passed             each cell is as the recurrence has it, and what lies beyond the cells is as it was
 use Rattle.std.specs.Prelude.{◌≡◌, ℕ, ◌+◌, ◌*◌, ◌<◌, ◌≤◌, Bool, ◌&&◌, List, length, drop, Some, None, Option, nat_le, slice_index_or}
+use Rattle.refusals.specs.declared.Refusal.TheVariants.{TooManyIdeals, TooFewCells}
+use Rattle.refusals.specs.Told.{told}
+use Rattle.sheet.specs.Changes.{unless, first}
 use Rattle.scale.specs.Rules.{Rules}
 use Rattle.ideals.specs.Ideals.{most_ideals}
 use Rattle.recurrence.specs.Table.{one, two, number, Candidate, Setting, among, cut, best, less_one, less_two, pick}
@@ -20,9 +25,11 @@ cell k l i a b = (i * (k + 1) + a) * (l + 1) + b
 abbrev pub cells_of : ℕ → ℕ → ℕ → ℕ
 cells_of k l n = n * (k + 1) * (l + 1)
 
--- tables of these lengths have the cells of n ideals, of which there are not too many
-abbrev pub suffices : ℕ → ℕ → ℕ → ℕ → ℕ → Bool
-suffices k l n ratings choices = nat_le n most_ideals && (nat_le (cells_of k l n) ratings && nat_le (cells_of k l n) choices)
+abbrev pub cells_fit : ℕ → ℕ → ℕ → ℕ → ℕ → Bool
+cells_fit k l n ratings choices = nat_le (cells_of k l n) ratings && nat_le (cells_of k l n) choices
+
+abbrev pub fill_refusal : ℕ → ℕ → ℕ → ℕ → ℕ → List ℕ
+fill_refusal k l n ratings choices = first (unless (nat_le n most_ideals) (told TooManyIdeals)) (unless (cells_fit k l n ratings choices) (told TooFewCells))
 
 abbrev pub chosen : {R : Type 0} → Option (Candidate R) → Choice
 chosen None = no_choice

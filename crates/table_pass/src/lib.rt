@@ -2,5 +2,6 @@
 #![tactic(auto)]
 
 mod fills;
+mod passes;
 
 pub use fills::fill;

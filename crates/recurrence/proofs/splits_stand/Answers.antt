@@ -1,13 +1,14 @@
-use Rattle.sheet.specs.Views.{net}
+use Rattle.split.specs.Problems.{net_of}
 use Rattle.split.specs.Splits.{kinds}
 use Rattle.recurrence.proofs.Plans.{planned, kinds_answer}
 use Rattle.recurrence.proofs.splits_stand.Goals as goal
 
 pub returns : goal.returns
 returns g c =
-    let n = net c.args.sheet.now in
-    let first = c.args.first.now in
-    let second = c.args.second.now in
+    let problem = c.args.problem.now in
+    let n = net_of problem in
+    let first = problem.first.now in
+    let second = problem.second.now in
     let s = c.args.scale.now in
     let law = g.met.S.Scale in
     let kept = c.operators.ensures.keeps in

@@ -1,0 +1,8 @@
+use Rattle.cells.specs.Tables.{SameTables}
+use Rattle.table_pass.specs.Filled.{reached}
+use Rattle.table_pass.specs.Passes.{setting_of, RowTurns, SamePass}
+use Rattle.table_pass.proofs.passes.Pass.fill_row.Given as goal
+
+abbrev pub invariant-loop-j : goal.invariant-loop-j
+invariant-loop-j g l =
+    SamePass l.fn.self l.self × SameTables l.fn.tables l.tables × RowTurns l.fn.self l.fn.tables l.tables l.i (reached (setting_of l.fn.self) l.i l.j)

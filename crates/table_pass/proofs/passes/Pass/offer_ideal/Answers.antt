@@ -1,0 +1,45 @@
+use Rattle.std.proofs.Common.{◌-◌, ◌*◌, length, get_or, sym, ap, ◌∙◌}
+use Rattle.std.proofs.lemmas.Result.{IfOk-at_ok}
+use Rattle.sets.specs.Sets.{inside}
+use Rattle.sheet.specs.Nets.{Net}
+use Rattle.sheet.specs.Figures.{figures_of}
+use Rattle.device.specs.Views.{answered}
+use Rattle.split.specs.Problems.{net_of}
+use Rattle.recurrence.specs.Table.{one, two, cut}
+use Rattle.cells.specs.Rows.{width_of}
+use Rattle.cells.specs.Tables.{table}
+use Rattle.table_pass.specs.Passes.{setting_of}
+use Rattle.table_pass.proofs.Rows.{rows_fit_in, cut_asked, offered_cut}
+use Rattle.table_pass.proofs.passes.Pass.offer_ideal.Goals as goal
+
+pub unwrap-requires : goal.unwrap-requires
+unwrap-requires g c =
+    let p = c.args.self.now in
+    let t = c.args.tables.now in
+    let v = width_of p.rows.counts.k p.rows.counts.l in
+    c.offer.ensures.fits
+    ∙ rows_fit_in c.args.i c.args.j (length p.ideals.now) c.row_at-from.result c.row_at-to.result v (length t.ratings.now) (length t.choices.now) c.row_at-from.ensures c.row_at-to.ensures c.requires.before c.requires.listed c.requires.room.0 c.requires.room.1
+
+pub returns-then-is_inside-clause-rows : goal.returns-then-is_inside-clause-rows
+returns-then-is_inside-clause-rows g c =
+    let p = c.args.self.now in
+    let t = c.args.tables.now in
+    let s = g.S.Scale.rules p.rows.scale.now in
+    let ms = p.ideals.now in
+    let n = net_of p.problem.now in
+    let first = g.K.Kind.meaning p.problem.now.first.now in
+    let second = g.L.Kind.meaning p.problem.now.second.now in
+    let e = setting_of p in
+    let i = c.args.i in
+    let j = c.args.j in
+    let k = p.rows.counts.k in
+    let l = p.rows.counts.l in
+    let test = inside (get_or ms j 0) (get_or ms i 0) in
+    let mask = get_or ms i 0 - get_or ms j 0 in
+    let within = sym c.is_inside.ensures ∙ c.if-is_inside.true in
+    let measured = c.figures-figures.ensures.value ∙ ap (λ (m : Net). figures_of m mask) p.measures in
+    offered_cut s j (cut e one 0 0 i j) (answered c.load-x.result) (cut e two 0 0 i j) (answered c.load-y.result) k l (j * width_of k l) c.row_at-from.result (i * width_of k l) c.row_at-to.result
+    (table s t) (table s c.offer.new.tables) c.row_at-from.ensures c.row_at-to.ensures
+    (cut_asked test (first (figures_of n mask)) (answered c.load-x.result) within (c.load-x.ensures ∙ ap first measured))
+    (cut_asked test (second (figures_of n mask)) (answered c.load-y.result) within (c.load-y.ensures ∙ ap second measured))
+    (IfOk-at_ok (λ _. _) c.unwrap.ensures c.offer.ensures.offers)

@@ -1,0 +1,39 @@
+-- A pass over the cells of all ideals, and the tables of the cells.
+--   setting_of p            the recurrence that the pass follows
+--   HasRoom p t             the tables have the cells of all ideals
+--   cells_in p t            the cells of the tables, on the scale of the pass
+--   offered_row p t i j     what the cells of ideal i become where the row of ideal j is offered to them
+--   RowTurns p t u i g      from t to u the row of ideal i went by g, and no other cell changed
+--   SamePass p q            q is p but for what was measured
+use Rattle.std.specs.Prelude.{◌≡◌, ℕ, ◌+◌, ◌*◌, length}
+use Rattle.device.specs.declared.kinds.Kind as kind
+use Rattle.scale.specs.declared.scales.Scale as scale
+use Rattle.split.specs.Problems.{net_of, kinds_of}
+use Rattle.recurrence.specs.Table.{one, two, Setting, cut}
+use Rattle.recurrence.specs.Planned.{setting_over}
+use Rattle.cells.specs.Cells.{Cell}
+use Rattle.cells.specs.Rows.{width_of, row, both, Onto}
+use Rattle.cells.specs.Tables.{table, HasCells}
+use Rattle.cells.specs.declared.tables.Tables.{Tables}
+use Rattle.table_pass.specs.declared.passes.Pass.{Pass}
+
+module _ {K L S R : Type 0} {first : kind.Ghosts K} {second : kind.Ghosts L} {order : scale.Ghosts S R} where
+  abbrev pub setting_of : Pass K L S R first second order → Setting R
+  setting_of p = setting_over p.ideals.now (net_of p.problem.now) (kinds_of first.meaning second.meaning p.problem.now) (order.rules p.rows.scale.now)
+
+  abbrev pub HasRoom : Pass K L S R first second order → Tables R → Type 0
+  HasRoom p t = HasCells t (length p.ideals.now * width_of p.rows.counts.k p.rows.counts.l)
+
+  abbrev pub cells_in : Pass K L S R first second order → Tables R → ℕ → Cell R
+  cells_in p t = table (order.rules p.rows.scale.now) t
+
+  abbrev pub offered_row : Pass K L S R first second order → Tables R → ℕ → ℕ → ℕ → ℕ → Cell R → Cell R
+  offered_row p t i j = both (order.rules p.rows.scale.now) j (cut (setting_of p) one 0 0 i j) (cut (setting_of p) two 0 0 i j) (row p.rows.counts.l (j * width_of p.rows.counts.k p.rows.counts.l) (cells_in p t))
+
+  abbrev pub RowTurns : Pass K L S R first second order → Tables R → Tables R → ℕ → (ℕ → ℕ → Cell R → Cell R) → Type 0
+  RowTurns p t u i g = Onto p.rows.counts.l (p.rows.counts.k + 1) (i * width_of p.rows.counts.k p.rows.counts.l) g (cells_in p t) (cells_in p u)
+
+  pub record SamePass (p q : Pass K L S R first second order) : Type 0 where
+    pub problem : q.problem ≡ p.problem
+    pub rows : q.rows ≡ p.rows
+    pub ideals : q.ideals ≡ p.ideals

@@ -1,0 +1,86 @@
+ghost use Rattle.std.specs.Prelude.{◌≡◌, ◌*◌, ◌<◌, ◌≤◌, length};
+ghost use Rattle.split.specs.Problems.{net_of};
+ghost use Rattle.stage_memo.specs.Views.{memo_net};
+ghost use Rattle.cells.specs.Rows.{width_of};
+ghost use Rattle.cells.specs.Tables.{SameTables};
+
+use cells::{Rows, Tables};
+use device::Kind;
+use scale::Scale;
+use split::Problem;
+use stage_memo::StageMemo;
+
+// A pass over the cells of all ideals, and what it has measured on the way.
+// The tables are handed to each method, which asks for their room: a struct within a struct would lose the lender's slices.
+#[derive(Drop)]
+pub(crate) struct Pass<'a, K: Kind, L: Kind, S: Scale> {
+    pub(crate) problem: &'a Problem<'a, K, L>,
+    pub(crate) rows: Rows<'a, S>,
+    pub(crate) memo: StageMemo<'a>,
+    pub(crate) ideals: &'a [u64],
+    ghost measures: { memo_net memo ≡ net_of problem.now },
+    ghost few: { length ideals.now ≤ 4096 },
+}
+
+impl<K: Kind, L: Kind, S: Scale> Pass<'_, K, L, S> {
+    ghost use Rattle.table_pass.specs.Filled.{reached, Filled, Passed};
+    ghost use Rattle.table_pass.specs.Passes.{setting_of, cells_in, offered_row, HasRoom, RowTurns, SamePass};
+
+    // Where the row of ideal `i` begins.
+    fn row_at(&self, i: usize) -> usize
+        requires { i < length self.now.ideals.now }
+        ensures { result ≡ i * width_of self.now.rows.counts.k self.now.rows.counts.l }
+    {
+        i * self.rows.width()
+    }
+
+    // Offers the row of ideal `j` to that of ideal `i`, where `j` lies inside `i`: the stage between them is measured once, and each kind is asked once.
+    fn offer_ideal(&mut self, tables: &mut Tables<'_, S::Rating>, i: usize, j: usize)
+        requires before { j < i }
+        requires listed { i < length self.old.ideals.now }
+        requires room { HasRoom self.old tables.old }
+        ensures same { SamePass self.old self.new }
+        ensures lent { SameTables tables.old tables.new }
+        ensures rows { RowTurns self.old tables.old tables.new i (offered_row self.old tables.old i j) }
+    {
+        let inner = self.ideals[j];
+        let outer = self.ideals[i];
+        if sets::is_inside(inner, outer) {
+            let figures = self.memo.figures(outer - inner);
+            let x = self.problem.first.load(&figures);
+            let y = self.problem.second.load(&figures);
+            let from = self.row_at(j);
+            let to = self.row_at(i);
+            self.rows.offer(tables, from, to, j as u32, &x, &y).unwrap();
+        }
+    }
+
+    // Fills the row of ideal `i`, where the rows of those before it stand.
+    fn fill_row(&mut self, tables: &mut Tables<'_, S::Rating>, i: usize)
+        requires listed { i < length self.old.ideals.now }
+        requires room { HasRoom self.old tables.old }
+        requires stand { Filled (setting_of self.old) self.old.rows.counts.k self.old.rows.counts.l i (cells_in self.old tables.old) }
+        ensures same { SamePass self.old self.new }
+        ensures lent { SameTables tables.old tables.new }
+        ensures rows { RowTurns self.old tables.old tables.new i (reached (setting_of self.old) i i) }
+    {
+        let at = self.row_at(i);
+        self.rows.clear(tables, at).unwrap();
+        // over the ideals by index: the rows stand by it, and the choices name it
+        for j in 0..i {
+            self.offer_ideal(tables, i, j);
+        }
+    }
+
+    // Fills the rows of all ideals.
+    pub(crate) fn fill_rows(&mut self, tables: &mut Tables<'_, S::Rating>)
+        requires { HasRoom self.old tables.old }
+        ensures lent { SameTables tables.old tables.new }
+        ensures rows { Passed (setting_of self.old) self.old.rows.counts.k self.old.rows.counts.l tables.old.ratings.now tables.old.choices.now tables.new.ratings.now tables.new.choices.now }
+    {
+        // by index, as the rows stand
+        for i in 0..self.ideals.len() {
+            self.fill_row(tables, i);
+        }
+    }
+}
