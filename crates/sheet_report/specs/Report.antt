@@ -6,7 +6,6 @@
 --   row_line n v      the line of operator v
 --   row_lines n       the lines of all operators
 --   stage_line s      the figures of a stage
---   load_figures x    the two numbers of a load
 --   ratings x         what a load rates on each scale where there is no other
 --   load_line a       the answer of a device kind: a load, or that the stage does not fit
 --   accelerator_head M, accelerator_line M s   the line of a stage on an accelerator with the limit M
@@ -28,6 +27,7 @@ use Rattle.sheet_layout.specs.Bodies.{file_refusal}
 use Rattle.sheet_layout.specs.Layout.{LaidOut}
 use Rattle.device.specs.Limits.{most_limit}
 use Rattle.device.specs.Loads.{PlainLoad, accelerated, processed}
+use Rattle.device.specs.Spelled.{spelled_load}
 use Rattle.scale.specs.Scales.{peak, line, pair}
 
 abbrev pub spaced : ℕ → List ℕ
@@ -69,9 +69,6 @@ stage_line s =
     ++ (codes " in " ++ (decimal s.incoming
     ++ (codes " out " ++ (decimal s.outgoing ++ codes "\n")))))))))
 
-abbrev pub load_figures : PlainLoad → List ℕ
-load_figures x = codes "ticks " ++ (decimal x.ticks ++ (codes " link " ++ decimal x.link))
-
 abbrev pub ratings : PlainLoad → List ℕ
 ratings x =
     codes ", peak " ++ (decimal (peak.joined peak.start x)
@@ -81,7 +78,7 @@ ratings x =
 
 abbrev pub load_line : Option PlainLoad → List ℕ
 load_line None = codes "does not fit\n"
-load_line (Some x) = load_figures x ++ ratings x
+load_line (Some x) = spelled_load x ++ ratings x
 
 abbrev pub accelerator_head : ℕ → List ℕ
 accelerator_head M = codes "accelerator " ++ (decimal M ++ codes ": ")

@@ -9,10 +9,8 @@ const USUAL_LIMIT: u32 = 1_000_000;
 
 // The limit that the first argument says, or the usual one.
 fn asked_limit(rt: &HostRuntime) -> anyhow::Result<u32> {
-    match env::args(rt)?.nth(1) {
-        Some(text) => Ok(text.parse::<u32>()?),
-        None => Ok(USUAL_LIMIT),
-    }
+    let asked = env::args(rt)?.nth(1).map(|text| text.parse()).transpose()?;
+    Ok(asked.unwrap_or(USUAL_LIMIT))
 }
 
 fn run(rt: &HostRuntime) -> anyhow::Result<()> {
