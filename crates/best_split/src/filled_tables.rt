@@ -37,8 +37,8 @@ impl<K: Kind, L: Kind, S: Scale> FilledTables<'_, K, L, S> {
         let counts = self.problem.sheet.counts();
         Place {
             i: self.ideals.len() - 1,
-            a: counts.k as usize,
-            b: counts.l as usize,
+            a: usize::from(counts.k),
+            b: usize::from(counts.l),
         }
     }
 
@@ -50,8 +50,8 @@ impl<K: Kind, L: Kind, S: Scale> FilledTables<'_, K, L, S> {
         ensures chosen { result < length self.now.choices.now }
     {
         let counts = self.problem.sheet.counts();
-        let line = at.i * (counts.k as usize + 1) + at.a;
-        line * (counts.l as usize + 1) + at.b
+        let line = at.i * (usize::from(counts.k) + 1) + at.a;
+        line * (usize::from(counts.l) + 1) + at.b
     }
 
     // The rating of the last cell, where one stands.
@@ -61,11 +61,8 @@ impl<K: Kind, L: Kind, S: Scale> FilledTables<'_, K, L, S> {
         let place = self.last_cell();
         let at = self.index_of(place);
         // the empty ideal has a rating and no choice
-        let is_empty = place.i == 0;
-        if !is_empty && self.choices[at].is_none() {
-            return None;
-        }
-        Some(self.ratings[at])
+        let stands = place.i == 0 || !self.choices[at].is_none();
+        stands.then_some(self.ratings[at])
     }
 
     // The ideal before a cell's last stage, and that stage's kind; none at the empty ideal, and where no rating stands.

@@ -21,6 +21,7 @@ pub fn put(buffer: &mut [u8], at: usize, bytes: &[u8]) -> Option<usize>
     ensures { MatchOption result ((length buffer.old < at + length bytes.now) × (buffer.new ≡ buffer.old)) (λ end. Wrote buffer.old at end bytes.now buffer.new) }
 {
     let end = at.checked_add(bytes.len())?;
+    // not by `get_mut` and `?`: where that gives nothing, a proof does not know that the buffer is as it was
     if buffer.len() < end {
         return None;
     }

@@ -37,21 +37,21 @@ impl<'a, S: Scale> Rows<'a, S> {
     fn line(&self) -> usize
         ensures { result ≡ self.now.counts.l + 1 }
     {
-        self.counts.l as usize + 1
+        usize::from(self.counts.l) + 1
     }
 
     // How many cells a row has.
     pub fn width(&self) -> usize
         ensures { result ≡ width_of self.now.counts.k self.now.counts.l }
     {
-        (self.counts.k as usize + 1) * self.line()
+        (usize::from(self.counts.k) + 1) * self.line()
     }
 
     // The runs of a kind: one with which each line leads to the next, or one in each line, in which each cell leads to the next.
     fn runs(&self, kind: WhichKind) -> Runs
         ensures { result ≡ runs_of self.now.counts.k self.now.counts.l kind }
     {
-        let k = self.counts.k as usize;
+        let k = usize::from(self.counts.k);
         match kind {
             WhichKind::First => Runs {
                 count: 1,
@@ -60,7 +60,7 @@ impl<'a, S: Scale> Rows<'a, S> {
             },
             WhichKind::Second => Runs {
                 count: k + 1,
-                cells: self.counts.l as usize,
+                cells: usize::from(self.counts.l),
                 step: 1,
             },
         }

@@ -77,7 +77,7 @@ impl<'a, R: Copy> Tables<'a, R> {
         ensures same { SameTables self.old self.new }
         ensures turns { let s = S.Scale.rules scale.now in TablesTurn s self.old self.new (shifted s choice (load_of load.now) from to count) }
     {
-        // Place by place: of two slices that are written through a `zip`, a proof does not know what they hold afterwards.
+        // By number: a cell is one place in two tables. Of two slices that are written through a `zip` a proof does not know what they hold afterwards, and a walk over one of them would leave the number for the other and for the cell that is offered.
         for c in 0..count {
             self.offer(scale, from + c, to + c, choice, load);
         }

@@ -1,8 +1,8 @@
 -- The members of a set: how many there are, the lowest of them, and the sets that tests gather.
-use Rattle.std.proofs.Common.{◌≡◌, ℕ, zero, suc, ◌+◌, ◌-◌, ◌*◌, ◌/◌, ◌%◌, ◌^◌, ◌<◌, ◌≤◌, Bool, true, false, cond, not, ◌&&◌, ◌||◌, eqb, ltb, List, [], ◌∷◌, ◌++◌, length, sum_by, filter, sym, refl, ap, ◌∙◌, subst, inl, inr, append-nil, suc-mul, pow-suc, arith, length-append}
+use Rattle.std.proofs.Common.{◌≡◌, ℕ, zero, suc, ◌+◌, ◌-◌, ◌*◌, ◌/◌, ◌%◌, ◌^◌, ◌<◌, ◌≤◌, Bool, true, false, cond, not, ◌&&◌, ◌||◌, eqb, ltb, List, [], ◌∷◌, ◌++◌, length, sum_by, filter, fold, sym, refl, ap, ◌∙◌, subst, inl, inr, append-nil, suc-mul, pow-suc, arith, length-append}
 use lib.Bits.{bit_and, bit_or, and_step, and_self, or_shifted_r}
 use lib.Count.{ones, ones_step, ones-le, count_trailing_zeros}
-use Rattle.std.specs.List.{AllByRecursion}
+use Rattle.std.specs.List.{AllByRecursion, range_with_len}
 use Rattle.std.proofs.lemmas.List.Elements.{filter-append}
 use Rattle.std.proofs.ByRecursion.{All-append, All-weaker}
 use Rattle.std.proofs.lemmas.List.Sums.{sum_by_push}
@@ -223,25 +223,39 @@ members_kept p n m few is =
 pub members_gathered : (p : ℕ → Bool) (n : ℕ) → n ≤ 64 → members (gathered p n) ≡ filter p (upto n)
 members_gathered p n few = members_kept p n (gathered p n) few (has_gathered p n)
 
--- ---- a loop that gathers: the operators below n are looked at, and n is next
+-- ---- operators included one after another: those from a on, n of them, that pass a test
 
-pub gathered_none : (p : ℕ → Bool) → 0 ≡ gathered p 0
-unfolding gathered
-gathered_none p = refl
+-- what `include` answers
+abbrev pub included : ℕ → ℕ → ℕ
+included m v = cond (ltb v 64) (including m v) m
 
--- `r` is what `include` answers
-pub gathered_yes : (p : ℕ → Bool) (n m r : ℕ) → n < 64 → m ≡ gathered p n → p n ≡ true → r ≡ cond (ltb n 64) (including m n) m → r ≡ gathered p (n + 1)
-unfolding gathered
-gathered_yes p n m r near before passes is =
-    let next : n + 1 ≡ suc n = omega arith in
-    is ∙ ap (λ (b : Bool). cond b (bit_or m (2 ^ n)) m) (lt-ltb n 64 near) ∙ ap (λ (x : ℕ). bit_or x (2 ^ n)) before ∙ or_above (gathered p n) n (gathered_lt p n)
-    ∙ sym (ap (gathered p) next ∙ ap (λ (b : Bool). gathered p n + cond b (2 ^ n) 0) passes)
+module _ (p : ℕ → Bool) where
+  with_next : (a : ℕ) → a < 64 → p a ≡ true → included (gathered p a) a ≡ gathered p (a + 1)
+  unfolding gathered
+  with_next a near passes =
+      let next : a + 1 ≡ suc a = omega arith in
+      ap (λ (b : Bool). cond b (bit_or (gathered p a) (2 ^ a)) (gathered p a)) (lt-ltb a 64 near) ∙ or_above (gathered p a) a (gathered_lt p a)
+      ∙ sym (ap (gathered p) next ∙ ap (λ (b : Bool). gathered p a + cond b (2 ^ a) 0) passes)
 
-pub gathered_no : (p : ℕ → Bool) (n m : ℕ) → m ≡ gathered p n → p n ≡ false → m ≡ gathered p (n + 1)
-unfolding gathered
-gathered_no p n m before fails =
-    let next : n + 1 ≡ suc n = omega arith in
-    before ∙ omega arith ∙ sym (ap (gathered p) next ∙ ap (λ (b : Bool). gathered p n + cond b (2 ^ n) 0) fails)
+  without_next : (a : ℕ) → p a ≡ false → gathered p a ≡ gathered p (a + 1)
+  unfolding gathered
+  without_next a fails =
+      let next : a + 1 ≡ suc a = omega arith in
+      omega arith ∙ sym (ap (gathered p) next ∙ ap (λ (b : Bool). gathered p a + cond b (2 ^ a) 0) fails)
+
+  include_one : (rest : List ℕ) (n a : ℕ) (b : Bool) → a < 64 → p a ≡ b → fold included (gathered p (a + 1)) rest ≡ gathered p n → fold included (gathered p a) (cond b (a ∷ rest) rest) ≡ gathered p n
+  include_one rest n a true near passes after = ap (λ (m : ℕ). fold included m rest) (with_next a near passes) ∙ after
+  include_one rest n a false near fails after = ap (λ (m : ℕ). fold included m rest) (without_next a fails) ∙ after
+
+  include_all : (n a : ℕ) → a + n ≤ 64 → fold included (gathered p a) (filter p (range_with_len a n)) ≡ gathered p (a + n)
+  include_all zero a room = ap (gathered p) (omega arith)
+  include_all (suc n) a room =
+      let next : (a + 1) + n ≡ a + suc n = omega arith in
+      include_one (filter p (range_with_len (a + 1) n)) (a + suc n) a (p a) (omega (arith, room)) refl (include_all n (a + 1) (omega (arith, room)) ∙ ap (gathered p) next)
+
+  pub include_below : (n : ℕ) → n ≤ 64 → fold included 0 (filter p (range_with_len 0 n)) ≡ gathered p n
+  unfolding gathered
+  include_below n room = include_all n 0 (omega (arith, room)) ∙ ap (gathered p) (omega arith)
 
 -- ---- a loop that sums over the numbers below n
 

@@ -15,12 +15,7 @@ pub const MOST_FIGURE: u32 = 1_000_000;
 pub const MOST_DEVICES: u8 = 8;
 
 const BLANK: Node = Node {
-    figures: Operator {
-        acc: 0,
-        cpu: 0,
-        size: 0,
-        link: 0,
-    },
+    figures: Operator::BLANK,
     successors: 0,
 };
 
@@ -110,7 +105,7 @@ impl Sheet {
         Ok(())
     }
 
-    // Sets how many devices of each kind there are.
+    // Sets how many devices of each kind there are. It takes two numbers and not `Counts`, since it is the one that judges them.
     pub fn count(&mut self, k: u8, l: u8) -> Result<(), Refusal>
         ensures refuses { outcome result ≡ count_refusal k l }
         ensures changes { net self.new ≡ changed (outcome result) (net self.old) (counted (net self.old) k l) }

@@ -7,6 +7,16 @@ pub struct Operator {
     pub link: u32,
 }
 
+impl Operator {
+    // What stands at a number without operator.
+    pub const BLANK: Operator = Operator {
+        acc: 0,
+        cpu: 0,
+        size: 0,
+        link: 0,
+    };
+}
+
 // One of the four. It names a figure in contracts too, which a closure that picks one could not, so it stays an enum.
 #[derive(Clone, Copy, PartialEq, Eq, Debug)]
 pub enum Figure {

@@ -46,18 +46,14 @@ impl Sheet {
         self.nodes().get(v).map_or(0, |node| node.successors)
     }
 
-    // The operators that pass a test. It is handed their numbers, so the loop goes over numbers and not over nodes.
+    // The operators that pass a test. It is handed their numbers, for an operator is named by its number.
     pub(crate) fn gather<F: Fn(usize) -> bool>(&self, test: F) -> u64
         requires { F.IsAlwaysCallable test }
-        ensures { (p : ℕ → Bool) → ((u : ℕ) (passes : Bool) → u < size (net self.now) → F.post test u passes → passes ≡ p u) → result ≡ gathered p (size (net self.now)) }
+        ensures { (p : ℕ → Bool) → ((u : ℕ) (passes : Bool) → F.post test u passes → passes ≡ p u) → result ≡ gathered p (size (net self.now)) }
     {
-        let mut set = 0;
-        for u in 0..self.operators {
-            if test(u) {
-                set = sets::include(set, u);
-            }
-        }
-        set
+        (0..self.operators)
+            .filter(|u| test(*u))
+            .fold(0, sets::include)
     }
 
     // The operators that have an edge to `v`.

@@ -73,8 +73,7 @@ pub(crate) fn body_end(file: &[u8], index: usize, from: usize, due: &Due) -> Opt
     let Some(entry) = Entry::fetch(file, index) else {
         return None;
     };
-    if !entry.is_due(due, from, file.len()) {
-        return None;
-    }
-    Some(from + entry.length)
+    entry
+        .is_due(due, from, file.len())
+        .then_some(from + entry.length)
 }

@@ -21,6 +21,7 @@ pub const EDGE_SIZE: usize = 2;
 pub const COUNTS_SIZE: usize = 2;
 
 // What is due of a contents entry: its section, the size of an entry of its body, how long the body may be, and whether it is the last.
+// The last is told by a plain flag: no other field has its meaning from it, and an enum of two would only spell yes and no.
 #[derive(Drop)]
 pub struct Due {
     pub section: Section,

@@ -52,12 +52,8 @@ impl<K: Kind, L: Kind> Problem<'_, K, L> {
         if self.is_back(stage.mask, walk.placed) {
             return Err(Breach::EdgeBack(i));
         }
-        let Ok(kind) = WhichKind::try_from(stage.kind) else {
-            return Err(Breach::DoesNotFit(i));
-        };
-        let Some(load) = self.ask(kind, stage.mask) else {
-            return Err(Breach::DoesNotFit(i));
-        };
+        let kind = WhichKind::try_from(stage.kind).map_err(|_| Breach::DoesNotFit(i))?;
+        let load = self.ask(kind, stage.mask).ok_or(Breach::DoesNotFit(i))?;
         let counts = self.sheet.counts();
         match kind {
             WhichKind::First if walk.first >= usize::from(counts.k) => {

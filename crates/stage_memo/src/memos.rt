@@ -13,14 +13,6 @@ use super::splits::split_lowest;
 use sheet::{Operator, Sheet, StageFigures};
 use std::array;
 
-// Of a number without operator.
-static BLANK: Operator = Operator {
-    acc: 0,
-    cpu: 0,
-    size: 0,
-    link: 0,
-};
-
 // A sheet and, in fixed memory, the predecessors of each number, and what is known of some sets: at each number of one whose lowest operator it is, and until then of the set without operators.
 #[derive(Drop)]
 pub struct StageMemo<'a> {
@@ -52,7 +44,7 @@ impl<'a> StageMemo<'a> {
         // not by `unwrap_or`: the two rows live for different times
         match self.sheet.row(v) {
             Some(row) => row,
-            None => &BLANK,
+            None => &Operator::BLANK,
         }
     }
 
