@@ -13,6 +13,7 @@ use split::{Problem, Stage};
 
 // The tables of some ideals, filled for a problem and a scale.
 // That a cell lies within them is asked of it: a cell that knew so itself would have to hold the tables again.
+// The setting is spelled out, as in the contracts that lead here: a name for it would stand between them and what they cite. The two tables are slices, as they are lent.
 #[derive(Drop)]
 pub(crate) struct FilledTables<'a, K: Kind, L: Kind, S: Scale> {
     pub(crate) problem: &'a Problem<'a, K, L>,

@@ -20,6 +20,7 @@ pub struct Found<R> {
 }
 
 // Fills the cells of these ideals and reads the stages back. The two tables are the caller's own slices, as they are lent.
+// The setting is spelled out: `setting`, which has a name, is over all ideals of a sheet, and here they are what a table holds.
 fn solve<K: Kind, L: Kind, S: Scale>(
     problem: &Problem<'_, K, L>,
     scale: &S,
@@ -47,7 +48,7 @@ fn solve<K: Kind, L: Kind, S: Scale>(
     })
 }
 
-// Finds a least split of a problem on a scale, by way of the three tables.
+// Finds a least split of a problem on a scale, by way of the three tables, which are slices, as they are lent.
 pub fn find<K: Kind, L: Kind, S: Scale>(
     problem: &Problem<'_, K, L>,
     scale: &S,

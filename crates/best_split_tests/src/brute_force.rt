@@ -3,6 +3,7 @@ ghost use Rattle.std.specs.Prelude.{◌+◌, ◌<◌, IfSome};
 
 use super::costs::{Cost, Drawn};
 use super::drafts::Draft;
+use device::WhichKind;
 use std::array;
 
 // Ratings on the three scales: the most ticks of a stage, all ticks, and the largest pair of ticks and link.
@@ -90,27 +91,19 @@ impl Candidate {
 }
 
 impl Walk {
-    // The same with this stage on a device of the first kind, where it fits and one is left.
-    fn on_first(&self, stage: &Candidate) -> Option<Walk>
+    // The same with this stage on a device of a kind, where it fits and one is left.
+    fn on(&self, kind: WhichKind, stage: &Candidate) -> Option<Walk>
         ensures { IfSome result (λ walk. walk.first + walk.second < self.now.first + self.now.second) }
     {
+        let (first, second, load) = match kind {
+            WhichKind::First => (self.first.checked_sub(1)?, self.second, stage.first?),
+            WhichKind::Second => (self.first, self.second.checked_sub(1)?, stage.second?),
+        };
         Some(Walk {
             placed: self.placed | stage.set,
-            first: self.first.checked_sub(1)?,
-            second: self.second,
-            rated: self.rated.with(stage.first?),
-        })
-    }
-
-    // The same on the second kind.
-    fn on_second(&self, stage: &Candidate) -> Option<Walk>
-        ensures { IfSome result (λ walk. walk.first + walk.second < self.now.first + self.now.second) }
-    {
-        Some(Walk {
-            placed: self.placed | stage.set,
-            first: self.first,
-            second: self.second.checked_sub(1)?,
-            rated: self.rated.with(stage.second?),
+            first,
+            second,
+            rated: self.rated.with(load),
         })
     }
 }
@@ -124,11 +117,10 @@ impl Search {
         let mut least = None;
         for stage in &self.candidates {
             if stage.follows(self.all, walk.placed) {
-                if let Some(next) = walk.on_first(stage) {
-                    least = lesser(least, self.least_from(next));
-                }
-                if let Some(next) = walk.on_second(stage) {
-                    least = lesser(least, self.least_from(next));
+                for kind in [WhichKind::First, WhichKind::Second] {
+                    if let Some(next) = walk.on(kind, stage) {
+                        least = lesser(least, self.least_from(next));
+                    }
                 }
             }
         }

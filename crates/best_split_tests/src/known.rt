@@ -11,6 +11,7 @@ use sheet::Sheet;
 use split::{Problem, Stage};
 use std::test::Fail;
 
+// As other crates of tests make their stages, for the same reason as their sheets.
 fn on(kind: WhichKind, mask: u64) -> Stage {
     Stage {
         mask,

@@ -1,4 +1,4 @@
-// Sheets that several tests are about.
+// Sheets that several tests are about. Each crate of tests makes its sheets itself: a crate for a few lines would need contracts and edits of its own, and be longer than they are.
 use refusals::Refusal;
 use sheet::{Operator, Sheet};
 

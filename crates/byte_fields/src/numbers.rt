@@ -20,11 +20,7 @@ impl Number for u16 {
     ghost value = { λ x. x };
 
     fn from_front(bytes: &[u8]) -> Option<u16> {
-        // a pattern of a slice has no `?`
-        let [a, b, ..] = bytes else {
-            return None;
-        };
-        Some(u16::from_le_bytes([*a, *b]))
+        bytes.first_chunk().map(|front| u16::from_le_bytes(*front))
     }
 }
 
@@ -34,10 +30,6 @@ impl Number for u32 {
     ghost value = { λ x. x };
 
     fn from_front(bytes: &[u8]) -> Option<u32> {
-        // the same
-        let [a, b, c, d, ..] = bytes else {
-            return None;
-        };
-        Some(u32::from_le_bytes([*a, *b, *c, *d]))
+        bytes.first_chunk().map(|front| u32::from_le_bytes(*front))
     }
 }

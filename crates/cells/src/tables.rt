@@ -9,6 +9,7 @@ use device::Load;
 use scale::Scale;
 
 // The two tables that a caller lends, with one cell at each place: its rating and its choice.
+// That they stay the caller's own, `SameTables`, each method says for itself: it relates two moments, and a type knows one.
 #[derive(Drop)]
 pub struct Tables<'a, R> {
     pub ratings: &'a mut [R],
@@ -43,6 +44,7 @@ impl<'a, R: Copy> Tables<'a, R> {
     }
 
     // Offers the cell `from` to the cell `to`, with one stage of this load more.
+    // The ends, the choice and the load have no struct: each of the calls on the way makes other ends, and a struct would be made anew for each cell.
     fn offer<S: Scale<Rating = R>>(
         &mut self,
         scale: &S,

@@ -28,6 +28,7 @@ fn append_above(table: &mut [u64], count: usize, v: usize, needed: u64) -> Optio
         };
         *place = *mask + (1 << v);
     }
+    // not by `is_none` and `then_some`, which was tried: the proof goes by what is left, and they hide it
     match masks.next() {
         None => Some(count + free.len()),
         Some(_) => None,

@@ -19,7 +19,7 @@ fn loose(operators: usize) -> Result<Sheet, Refusal> {
 }
 
 // The diamond: edges 0 to 1, 0 to 2, 1 to 3 and 2 to 3.
-// Each crate of tests makes its sheets itself: figures and counts differ, and a crate for them would be longer than they are.
+// Each crate of tests makes its sheets itself: a crate for a few lines would need contracts and edits of its own, and be longer than they are.
 fn diamond() -> Result<Sheet, Refusal> {
     let mut sheet = loose(4)?;
     for (from, to) in [(0, 1), (0, 2), (1, 3), (2, 3)] {

@@ -109,7 +109,7 @@ fn join_edges(sheet: &mut Sheet, body: &[u8]) -> Result<(), Refusal>
     ensures refuses { outcome result ≡ first_wrong (edge_refusal (size (net sheet.old)) body.now) (edges_in body.now) }
     ensures reads { OnOk result (net sheet.new ≡ with_edges body.now (edges_in body.now) (net sheet.old)) }
 {
-    // the pattern takes the body apart, and `i` counts the edges that it has taken, for a refusal to name
+    // by this pattern, a rule of the project for edge bodies; `i` counts the edges that it has taken, for a refusal to name
     let mut i: usize = 0;
     let mut last = None;
     let mut left = body;

@@ -17,7 +17,7 @@ fn blank() -> Operator {
 }
 
 // The diamond: edges 0 to 1, 0 to 2, 1 to 3 and 2 to 3.
-// Each crate of tests makes its sheets itself: figures and counts differ, and a crate for them would be longer than they are.
+// Each crate of tests makes its sheets itself: a crate for a few lines would need contracts and edits of its own, and be longer than they are.
 fn diamond() -> Result<Sheet, Refusal> {
     let mut sheet = Sheet::new();
     for (acc, cpu, size) in [(2, 6, 1), (4, 8, 2), (3, 9, 2), (2, 5, 1)] {

@@ -13,7 +13,8 @@ use scale::Scale;
 use split::Problem;
 use stage_memo::StageMemo;
 
-// Fills the cells of these ideals, and leaves what lies beyond them. The two tables are slices, as they are lent;
+// Fills the cells of these ideals, and leaves what lies beyond them. The setting is spelled out: `setting`, which has a name,
+// is over all ideals of a sheet, and here they are what is handed over. The two tables are slices, as they are lent;
 // the rest has one lifetime, since the pass holds all of it.
 pub fn fill<'a, K: Kind, L: Kind, S: Scale>(
     problem: &'a Problem<'a, K, L>,
