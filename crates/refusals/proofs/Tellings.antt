@@ -1,7 +1,7 @@
 -- A refusal tells something, so that a result tells nothing exactly if it is an answer.
 use Rattle.std.proofs.Common.{◌≡◌, ℕ, true, List, [], ◌∷◌, is_ok, Ok, Err, Result, refl, arith}
 use Rattle.refusals.specs.declared.Refusal.{Refusal}
-use Rattle.refusals.specs.declared.Refusal.TheVariants.{AboveLimit, SheetFull, NoOperator, NotUpward, EdgeExists, CountAboveLimit, TooManyIdeals, TooFewCells, NoLawfulSplit, NotASheetFile, ContentsEntry, BodyEntry, BufferTooShort}
+use Rattle.refusals.specs.declared.Refusal.TheVariants.{AboveLimit, SheetFull, NoOperator, NotUpward, EdgeExists, CountAboveLimit, TooManyIdeals, TooFewCells, NoLawfulSplit, NoSplit, NoStage, NotASheetFile, ContentsEntry, BodyEntry, BufferTooShort}
 use Rattle.refusals.specs.Told.{told, outcome}
 
 pub something : (x : ℕ) (r : List ℕ) → x ∷ r ≡ [] → ⊥
@@ -17,6 +17,8 @@ told_something CountAboveLimit h = something _ _ h
 told_something TooManyIdeals h = something _ _ h
 told_something TooFewCells h = something _ _ h
 told_something NoLawfulSplit h = something _ _ h
+told_something NoSplit h = something _ _ h
+told_something NoStage h = something _ _ h
 told_something NotASheetFile h = something _ _ h
 told_something (ContentsEntry index) h = something _ _ h
 told_something (BodyEntry section entry reason) h = something _ _ h

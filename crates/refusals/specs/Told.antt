@@ -11,7 +11,7 @@ use Rattle.refusals.specs.declared.Reason.TheVariants as reasons
 use Rattle.refusals.specs.declared.Section.{Section}
 use Rattle.refusals.specs.declared.Section.TheVariants as sections
 use Rattle.refusals.specs.declared.Refusal.{Refusal}
-use Rattle.refusals.specs.declared.Refusal.TheVariants.{AboveLimit, SheetFull, NoOperator, NotUpward, EdgeExists, CountAboveLimit, TooManyIdeals, TooFewCells, NoLawfulSplit, NotASheetFile, ContentsEntry, BodyEntry, BufferTooShort}
+use Rattle.refusals.specs.declared.Refusal.TheVariants.{AboveLimit, SheetFull, NoOperator, NotUpward, EdgeExists, CountAboveLimit, TooManyIdeals, TooFewCells, NoLawfulSplit, NoSplit, NoStage, NotASheetFile, ContentsEntry, BodyEntry, BufferTooShort}
 
 abbrev pub told_reason : Reason → ℕ
 told_reason reasons.AboveLimit = 1
@@ -35,6 +35,8 @@ told CountAboveLimit = 6 ∷ []
 told TooManyIdeals = 7 ∷ []
 told TooFewCells = 8 ∷ []
 told NoLawfulSplit = 9 ∷ []
+told NoSplit = 10 ∷ []
+told NoStage = 11 ∷ []
 told NotASheetFile = 12 ∷ []
 told (ContentsEntry index) = 13 ∷ index ∷ []
 told (BodyEntry section entry reason) = 14 ∷ section_number section ∷ entry ∷ told_reason reason ∷ []

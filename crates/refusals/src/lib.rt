@@ -26,7 +26,7 @@ pub enum Section {
 
 #[derive(Clone, Copy, PartialEq, Eq, Debug)]
 pub enum Refusal {
-    // a figure of an operator, or the limit of an accelerator, is above what it may be
+    // a figure of an operator, the limit of an accelerator or a pick time is above what it may be
     AboveLimit,
     // the sheet has all the operators that it can hold
     SheetFull,
@@ -44,6 +44,10 @@ pub enum Refusal {
     TooFewCells,
     // there is no lawful split
     NoLawfulSplit,
+    // no split stands
+    NoSplit,
+    // the number is not below the number of stages
+    NoStage,
     // too short for a sheet file, other letters, or another number of contents entries
     NotASheetFile,
     // the contents entry with this index is wrong
@@ -92,6 +96,8 @@ impl Refusal {
             Refusal::TooManyIdeals => 7,
             Refusal::TooFewCells => 8,
             Refusal::NoLawfulSplit => 9,
+            Refusal::NoSplit => 10,
+            Refusal::NoStage => 11,
             Refusal::NotASheetFile => 12,
             Refusal::ContentsEntry(_) => 13,
             Refusal::BodyEntry { .. } => 14,
