@@ -1,2 +1,3 @@
+pub mod LeastSplits
 pub mod Lines
 pub mod Told

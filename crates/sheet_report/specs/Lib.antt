@@ -1,2 +1,4 @@
+pub mod Listed
+pub mod Plans
 pub mod Report
 pub mod Accepted

@@ -1,5 +1,4 @@
 -- The text of a report on a sheet file, as bytes. Each line ends with one line feed.
---   listed vs         a space and a number for each operator of a set, or that there is none
 --   summary n         how many operators and edges there are, and how many devices of each kind
 --   row_figures o     the figures of an operator
 --   neighbours s t    the predecessors and the successors of an operator
@@ -12,10 +11,11 @@
 --   processor_line s  the line of a stage on a processor
 --   stage_lines M s   the figures of a stage and both answers
 --   network_lines M n those of all operators taken as one stage
---   described M n     the report on the sheet n, with an accelerator of the limit M
+--   sheet_lines M n   what the sheet n says, and its network as one stage
+--   described M n     the report on the sheet n, with an accelerator of the limit M: that, and its least splits
 --   refused_line ts   the report on what is refused, which is told by ts
 --   Reported M f t    t is the report on the file f, with an accelerator of the limit M
-use Rattle.std.specs.Prelude.{◌≡◌, ℕ, true, false, List, [], ◌∷◌, ◌++◌, Some, None, codes, decimal, Option, nat_le}
+use Rattle.std.specs.Prelude.{◌≡◌, ℕ, true, false, List, ◌∷◌, ◌++◌, Some, None, codes, decimal, Option, nat_le}
 use Rattle.std.specs.List.{flat_map}
 use Rattle.refusals.specs.declared.Refusal.TheVariants.{AboveLimit}
 use Rattle.refusals.specs.Told.{told, spelled}
@@ -29,13 +29,8 @@ use Rattle.device.specs.Limits.{most_limit}
 use Rattle.device.specs.Loads.{PlainLoad, accelerated, processed}
 use Rattle.device.specs.Spelled.{spelled_load}
 use Rattle.scale.specs.Scales.{peak, line, pair}
-
-abbrev pub spaced : ℕ → List ℕ
-spaced v = codes " " ++ decimal v
-
-abbrev pub listed : List ℕ → List ℕ
-listed [] = codes " none"
-listed (v ∷ vs) = flat_map spaced (v ∷ vs)
+use Rattle.sheet_report.specs.Listed.{listed}
+use Rattle.sheet_report.specs.Plans.{plan_lines}
 
 abbrev pub summary : Net → List ℕ
 summary n =
@@ -95,8 +90,11 @@ stage_lines M s = stage_line s ++ (accelerator_line M s ++ processor_line s)
 abbrev pub network_lines : ℕ → Net → List ℕ
 network_lines M n = stage_lines M (figures_of n (full (size n)))
 
+abbrev pub sheet_lines : ℕ → Net → List ℕ
+sheet_lines M n = summary n ++ (row_lines n ++ network_lines M n)
+
 abbrev pub described : ℕ → Net → List ℕ
-described M n = summary n ++ (row_lines n ++ network_lines M n)
+described M n = sheet_lines M n ++ plan_lines M n
 
 abbrev pub refused_line : List ℕ → List ℕ
 refused_line ts = codes "refused " ++ (spelled ts ++ codes "\n")

@@ -1,17 +1,21 @@
 // The report on a sheet.
 ghost use Rattle.std.specs.Prelude.{◌≡◌, Some, IfOk, string_bytes};
 ghost use Rattle.sheet.specs.Views.{net};
-ghost use Rattle.sheet_report.specs.Report.{described};
+ghost use Rattle.sheet_report.specs.Plans.{PlansLeast};
+ghost use Rattle.sheet_report.specs.Report.{sheet_lines, described};
 
 use crate::networks::NetworkLines;
+use crate::plans::plan;
 use crate::rows::RowLines;
 use crate::summaries::Summary;
-use device::Accelerator;
+use device::{Accelerator, Processor};
+use scale::{Line, Pair, Peak};
 use sheet::Sheet;
+use split::Problem;
 use std::alloc::{AllocError, Global};
 use std::fmt;
 
-// All that is reported of a sheet.
+// What a sheet says, and its network as one stage.
 #[derive(Clone, Copy)]
 struct Description<'a> {
     sheet: &'a Sheet,
@@ -19,7 +23,7 @@ struct Description<'a> {
 }
 
 impl fmt::Display for Description<'_> {
-    ghost output = { λ report. Some (described report.accelerator.now.limit (net report.sheet.now)) };
+    ghost output = { λ report. Some (sheet_lines report.accelerator.now.limit (net report.sheet.now)) };
 
     fn fmt<W: fmt::Write>(&self, f: &mut fmt::Formatter<W>) -> fmt::Result {
         let Description { sheet, accelerator } = *self;
@@ -36,7 +40,18 @@ pub fn describe(
     sheet: &Sheet,
     accelerator: &Accelerator,
 ) -> Result<String, AllocError>
-    ensures { IfOk result (λ t. string_bytes t ≡ described accelerator.now.limit (net sheet.now)) }
+    ensures text { IfOk result (λ t. string_bytes t ≡ described accelerator.now.limit (net sheet.now)) }
+    ensures means { PlansLeast accelerator.now.limit (net sheet.now) }
 {
-    format!(in heap; "{}", Description { sheet, accelerator })
+    let problem = &Problem {
+        sheet,
+        first: accelerator,
+        second: &Processor,
+    };
+    // for their contracts: what is told of each scale is a least split
+    recurrence::splits_stand(problem, &Peak);
+    recurrence::splits_stand(problem, &Line);
+    recurrence::splits_stand(problem, &Pair);
+    let plan = plan(heap, problem)?;
+    format!(in heap; "{}{plan}", Description { sheet, accelerator })
 }

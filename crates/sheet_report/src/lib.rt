@@ -5,8 +5,10 @@ mod answers;
 mod descriptions;
 mod listed;
 mod networks;
+mod plans;
 mod reports;
 mod rows;
+mod stage_lists;
 mod summaries;
 #[cfg(test)]
 mod tests;

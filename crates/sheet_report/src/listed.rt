@@ -1,7 +1,7 @@
 // The operators of a set in a line.
 ghost use Rattle.std.specs.Prelude.{Some};
 ghost use Rattle.sets.specs.Sets.{members};
-ghost use Rattle.sheet_report.specs.Report.{listed};
+ghost use Rattle.sheet_report.specs.Listed.{listed};
 
 use std::fmt;
 

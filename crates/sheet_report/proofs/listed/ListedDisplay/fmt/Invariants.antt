@@ -1,6 +1,6 @@
 use Rattle.std.specs.Fmt.{HasWritten, IsPlainFormatter}
 use Rattle.std.specs.List.{flat_map}
-use Rattle.sheet_report.specs.Report.{spaced}
+use Rattle.sheet_report.specs.Listed.{spaced}
 use Rattle.sheet_report.proofs.listed.ListedDisplay.fmt.Given as goal
 
 abbrev pub invariant-loop-operator : goal.invariant-loop-operator
