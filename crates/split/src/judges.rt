@@ -24,7 +24,7 @@ impl<K: Kind, L: Kind> Problem<'_, K, L> {
     }
 
     // What a device kind answers for a set as a stage.
-    fn ask(&self, kind: WhichKind, mask: u64) -> Option<Load>
+    pub fn ask(&self, kind: WhichKind, mask: u64) -> Option<Load>
         ensures { answered result ≡ asked (net_of self.now) (kinds_of K.meaning L.meaning self.now) (kind_number kind) mask }
     {
         let figures = self.sheet.figures(mask);
