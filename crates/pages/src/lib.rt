@@ -1,0 +1,6 @@
+// The pace of a split, and its page: the split as text in a lent buffer.
+#![tactic(auto)]
+
+mod paces;
+
+pub use paces::pace;
