@@ -28,8 +28,8 @@ module _ (n : Net) (e : Kinds) where
   reached (s ∷ t ∷ ss) h =
       let r = reached (t ∷ ss) (omega arith) in
       elim (cases_lt (ticks_in n e s) (pace_of n e (t ∷ ss))) [
-      | inl less ↦ (suc r.0, omega (arith, r.1), omega (arith, r.2))
-      | inr most ↦ (0, omega arith, omega arith)
+        | inl less ↦ (suc r.0, omega (arith, r.1), omega (arith, r.2))
+        | inr most ↦ (0, omega arith, omega arith)
       ]
 
   none : (ss : List Stage) → length ss ≡ 0 → pace_of n e ss ≡ 0
