@@ -1,16 +1,19 @@
 -- How long the parts of a page are, and that one is put after another.
-use Rattle.std.proofs.Common.{Bool, true, false, ◌==◌, ◌^◌, ◌≡◌, ℕ, zero, suc, ◌+◌, ◌*◌, ◌<◌, ◌≤◌, List, [], ◌∷◌, ◌++◌, length, get_or, take, drop, sym, refl, ap, ◌∙◌, subst, arith, decimal, codes, cond}
+use Rattle.std.proofs.Common.{Bool, true, false, ◌==◌, ◌≡◌, ℕ, ◌+◌, ◌*◌, ◌<◌, ◌≤◌, List, [], ◌∷◌, ◌++◌, length, sym, refl, ap, ◌∙◌, subst, arith, decimal, codes, cond}
 use Rattle.std.specs.Bool.{⊤}
 use Rattle.std.specs.List.{flat_map, AllByRecursion}
 use Rattle.std.proofs.lemmas.Fmt.{length-decimal-le}
-use Rattle.std.proofs.lemmas.List.{length-append, take_more, flat_map_more}
+use Rattle.std.proofs.lemmas.List.{length-append, flat_map_more}
 use Rattle.std.proofs.lemmas.List.Concat.{flat_map-append}
 use Rattle.byte_fields.specs.Wrote.{Wrote}
-use Rattle.byte_fields.proofs.Wrote.{wrote_then, wrote_length}
+use Rattle.byte_fields.proofs.Wrote.{wrote_then, wrote_take, wrote_drop}
 use Rattle.sets.specs.Sets.{In, members}
 use Rattle.sets.proofs.Members.{members_all, members_few}
+use Rattle.sheet.specs.Nets.{Net}
 use Rattle.split.specs.declared.stages.Stage.{Stage}
-use Rattle.pages.specs.Pages.{spaced, letter, stage_line, head_line}
+use Rattle.split.specs.Splits.{Kinds}
+use Rattle.pages.specs.Paces.{pace_of}
+use Rattle.pages.specs.Pages.{spaced, letter, stage_line, head_line, page_of, HasPage}
 
 module _ {X : Type 0} (f : X → List ℕ) where
   -- in a list the texts of some elements and of the next one are no longer than the whole
@@ -64,3 +67,10 @@ length_head count pace =
       length-append (codes " pace ") (decimal pace ++ codes "\n"),
       length-append (decimal pace) (codes "\n"),
     )
+
+-- the page is its parts
+pub page_is : (n : Net) (e : Kinds) (ss zs : List Stage) (p : ℕ) → zs ≡ ss → p ≡ pace_of n e zs → head_line (length zs) p ++ flat_map stage_line zs ≡ page_of n e ss
+page_is n e ss zs p same pace = rw (pace, same) refl
+
+pub has_page : {page old new : List ℕ} {len : ℕ} → Wrote old 0 len page new → HasPage page old new len
+has_page w = record { size = omega (arith, w.ends); bytes = wrote_take w; rest = wrote_drop w }

@@ -4,5 +4,7 @@
 mod lengths;
 mod paces;
 mod puts;
+mod writes;
 
 pub use paces::pace;
+pub use writes::write_page;

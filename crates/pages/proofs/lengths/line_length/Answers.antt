@@ -1,4 +1,4 @@
-use Rattle.std.proofs.Common.{[], ◌∷◌, ◌++◌, length, ap, ◌∙◌, sym, decimal, codes, arith}
+use Rattle.std.proofs.Common.{rules, [], ◌∷◌, ◌++◌, ap, ◌∙◌, sym, decimal, codes, arith}
 use Rattle.std.proofs.lemmas.List.{append_assoc, length-append}
 use Rattle.sets.specs.Sets.{members}
 use Rattle.sets.specs.Walks.{members_left}
@@ -22,4 +22,4 @@ loop-operator-preserved c =
     )
 
 pub returns : goal.returns
-returns c = ?
+returns c = search (rules, length_line c.args.stage.now)

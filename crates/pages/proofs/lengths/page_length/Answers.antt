@@ -1,7 +1,5 @@
-use Rattle.std.proofs.Common.{length, take, arith}
-use Rattle.std.proofs.lemmas.List.{take_more}
+use Rattle.std.proofs.Common.{length, arith}
 use Rattle.std.proofs.lemmas.List.Folds.{length-flat_map-take}
-use Rattle.split.specs.Splits.{stage_at}
 use Rattle.pages.specs.Pages.{stage_line}
 use Rattle.pages.proofs.Parts.{lines_short, length_head}
 use Rattle.pages.proofs.lengths.page_length.Goals as goal

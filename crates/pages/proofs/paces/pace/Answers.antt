@@ -1,4 +1,4 @@
-use Rattle.std.proofs.Common.{◌≡◌, length, take, sym, subst, arith, ◌∙◌, ap, rules}
+use Rattle.std.proofs.Common.{sym, subst, ◌∙◌, ap, rules}
 use Rattle.std.proofs.lemmas.List.{take_all}
 use Rattle.split.specs.Problems.{net_of, kinds_of}
 use Rattle.pages.specs.Paces.{pace_of, IsPace}
