@@ -4,6 +4,8 @@
 mod lengths;
 mod paces;
 mod puts;
+#[cfg(test)]
+mod tests;
 mod writes;
 
 pub use paces::pace;
