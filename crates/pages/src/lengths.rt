@@ -18,6 +18,7 @@ fn digits<N: Integer>(number: N) -> usize
 fn line_length(stage: &Stage) -> usize
     ensures { result ≡ length (stage_line stage.now) }
 {
+    // a letter and a line feed
     let mut length = 2;
     for operator in sets::members_of(stage.mask) {
         length += 1 + digits(operator);
@@ -25,11 +26,12 @@ fn line_length(stage: &Stage) -> usize
     length
 }
 
-// How long the page of so many stages is.
+// How long the page of these stages is.
 pub(crate) fn page_length(stages: &[Stage], pace: u32) -> usize
     requires { length stages.now ≤ 16 }
     ensures { result ≡ length (head_line (length stages.now) pace) + length (flat_map stage_line stages.now) }
 {
+    // the two words with their spaces, and a line feed
     let mut length = 14 + digits(stages.len()) + digits(pace);
     for stage in stages {
         length += line_length(stage);
