@@ -1,0 +1,45 @@
+-- One step more of a list of calls.
+use Rattle.std.proofs.Common.{◌≡◌, ℕ, zero, suc, ◌+◌, ◌<◌, List, [], ◌∷◌, ◌++◌, length, map, take, set, get_or, reverse, Option, Some, Result, true, is_some, refl, sym, ap, ◌∙◌, subst, arith}
+use Rattle.std.specs.List.{All, filter_map, cons_option}
+use Rattle.std.specs.Option.{option_map}
+use Rattle.std.proofs.lemmas.List.{take_more_set, reverse-append}
+use Rattle.std.proofs.lemmas.List.Elements.{filter_map-append, All-append}
+use Rattle.refusals.specs.declared.Refusal.{Refusal}
+use Rattle.scale.specs.Rules.{Rules}
+use Rattle.split.specs.Splits.{Kinds}
+use Rattle.planner.specs.declared.calls.Call.{Call}
+use Rattle.planner.specs.declared.calls.Granted.{Granted}
+use Rattle.planner.specs.declared.calls.Step.{Step}
+use Rattle.planner.specs.States.{State}
+use Rattle.planner.specs.Law.{Event, event, Holds}
+use Rattle.planner.specs.Runs.{handed, event_of, history}
+
+module _ {X : Type 0} (P : X → Type 0) where
+  one : (y : X) → P y → All P (y ∷ [])
+  one y q zero d h = q
+  one y q (suc k) d h = absurd (omega (arith, h))
+
+  pub all_more : (xs : List X) (i : ℕ) (y : X) → i < length xs → P y → All P (take i xs) → All P (take (i + 1) (set xs i y))
+  all_more xs i y near q all = subst (All P) (sym (take_more_set xs i y near)) (All-append P (take i xs) (y ∷ []) all (one y q))
+
+module _ {R : Type 0} (a b c : ℕ) (xs : List (Step R)) (i : ℕ) (y : Step R) (r : Result (Granted R) Refusal) where
+  pub history_more : i < length xs → y.answer ≡ Some r → history a b c (take (i + 1) (set xs i y)) ≡ event (handed a b c y.call) r ∷ history a b c (take i xs)
+  history_more near told =
+      ap (history a b c) (take_more_set xs i y near)
+      ∙ ap reverse (filter_map-append (event_of a b c) (take i xs) (y ∷ []))
+      ∙ reverse-append (filter_map (event_of a b c) (take i xs)) (filter_map (event_of a b c) (y ∷ []))
+      ∙ ap (λ (o : Option (Result (Granted R) Refusal)). reverse (cons_option (option_map (event (handed a b c y.call)) o) []) ++ reverse (filter_map (event_of a b c) (take i xs))) told
+
+module _ {K L S R : Type 0} (e e' : Kinds) (s s' : Rules R) (a b c a' b' c' : ℕ) (xs : List (Step R)) (i : ℕ) (y : Step R) (call : Call) (r : Result (Granted R) Refusal) (p : State K L S R) where
+  pub holds_more : e' ≡ e → s' ≡ s → a' ≡ a → b' ≡ b → c' ≡ c → i < length xs → y.call ≡ call → y.answer ≡ Some r
+      → Holds e s (event (handed a' b' c' call) r ∷ history a b c (take i xs)) p → Holds e' s' (history a b c (take (i + 1) (set xs i y))) p
+  holds_more ee ss ae be ce near same told held =
+      let h = history a b c (take i xs) in
+      let there : Holds e s (event (handed a b c call) r ∷ h) p =
+      subst (λ n. Holds e s (event (handed a b n call) r ∷ h) p) ce
+      (subst (λ n. Holds e s (event (handed a n c' call) r ∷ h) p) be
+      (subst (λ n. Holds e s (event (handed n b' c' call) r ∷ h) p) ae held)) in
+      subst (λ u. Holds u s' (history a b c (take (i + 1) (set xs i y))) p) (sym ee)
+      (subst (λ u. Holds e u (history a b c (take (i + 1) (set xs i y))) p) (sym ss)
+      (subst (λ u. Holds e s u p) (sym (history_more a b c xs i y r near told))
+      (subst (λ u. Holds e s (event (handed a b c u) r ∷ h) p) (sym same) there)))
