@@ -1,18 +1,16 @@
 -- A plan is granted exactly if the tables suffice and there is a lawful split, and refused for want of one exactly if they suffice and there is none.
-use Rattle.std.proofs.Common.{◌≡◌, ℕ, Bool, true, false, ◌&&◌, List, [], ◌∷◌, length, is_ok, is_some, IfOk, Result, Ok, Err, refl, sym, ap, ◌∙◌, nat_le, arith}
+use Rattle.std.proofs.Common.{◌≡◌, ℕ, Bool, true, false, ◌&&◌, List, [], length, is_some, Result, Ok, Err, refl, sym, ◌∙◌, nat_le, arith}
 use Rattle.refusals.specs.declared.Refusal.{Refusal}
 use Rattle.refusals.specs.declared.Refusal.TheVariants.{TooManyIdeals, TooFewCells, NoLawfulSplit}
-use Rattle.refusals.specs.Told.{told, outcome}
+use Rattle.refusals.specs.Told.{told}
 use Rattle.refusals.proofs.Tellings.{told_something}
 use Rattle.sheet.specs.Changes.{unless, first}
 use Rattle.scale.specs.Rules.{Rules}
-use Rattle.split.specs.declared.stages.Stage.{Stage}
-use Rattle.split.specs.Splits.{Kinds, Lawful}
+use Rattle.split.specs.Splits.{Kinds}
 use Rattle.ideals.specs.Ideals.{ideals, room}
 use Rattle.recurrence.specs.Planned.{best_of, split_of}
 use Rattle.cells.specs.declared.choices.Choice.{Choice}
 use Rattle.table_pass.specs.Filled.{cells_fit}
-use Rattle.best_split.specs.Finds.{tables_suffice}
 use Rattle.planner.specs.declared.plans.Plan.{Plan}
 use Rattle.planner.specs.States.{State}
 use Rattle.planner.specs.Plans.{Plans}

@@ -1,5 +1,5 @@
 -- The law holds with one call more.
-use Rattle.std.proofs.Common.{◌≡◌, ℕ, List, [], ◌∷◌, length, Option, None, Some, IfOk, IfSome, Result, Ok, Err, refl, sym, ap, ◌∙◌, subst}
+use Rattle.std.proofs.Common.{◌≡◌, ℕ, List, [], ◌∷◌, length, None, IfOk, IfSome, Result, Ok, Err, refl, sym, ap, ◌∙◌, subst}
 use Rattle.std.specs.Option.{option_map}
 use Rattle.refusals.specs.declared.Refusal.{Refusal}
 use Rattle.refusals.specs.Told.{told, outcome}
@@ -21,7 +21,7 @@ use Rattle.planner.specs.declared.calls.Granted.TheVariants.{Added, Changed, Pla
 use Rattle.planner.specs.States.{Standing, State, edited}
 use Rattle.planner.specs.Plans.{Plans}
 use Rattle.planner.proofs.Judging.{plan_judged}
-use Rattle.planner.specs.Law.{Event, event, by_number, by_grant, by_plan, done, present, last_plan, rating_after, Judged, Answers, AllAnswered, Holds}
+use Rattle.planner.specs.Law.{Event, event, by_number, by_grant, by_plan, done, present, last_plan, rating_after, Judged, Answers, Holds}
 
 pub kept : {X : Type 0} (r : List ℕ) (a b : X) → (r ≡ [] → ⊥) → changed r a b ≡ a
 kept [] a b h = absurd (h refl)

@@ -1,5 +1,5 @@
 -- A plan that is handed the fronts of three tables changes nothing past them.
-use Rattle.std.proofs.Common.{◌≡◌, ℕ, min, ◌+◌, ◌≤◌, List, ◌++◌, length, take, drop, Result, refl, sym, ap, ◌∙◌, subst, arith}
+use Rattle.std.proofs.Common.{◌≡◌, ℕ, min, List, ◌++◌, length, take, drop, Result, refl, sym, ap, ◌∙◌, subst, arith}
 use Rattle.std.proofs.Math.Seq.{take-append_seam, drop-append_seam}
 use Rattle.std.proofs.lemmas.List.{length-take-le}
 use Rattle.refusals.specs.declared.Refusal.{Refusal}
@@ -12,7 +12,7 @@ use Rattle.planner.specs.Plans.{Plans}
 use Rattle.planner.specs.declared.calls.Call.{Call}
 use Rattle.planner.specs.declared.calls.Call.TheVariants as calls
 use Rattle.planner.specs.declared.calls.Granted.{Granted}
-use Rattle.planner.specs.Law.{Event, event, by_plan}
+use Rattle.planner.specs.Law.{event, by_plan}
 use Rattle.planner.specs.Runs.{handed, MakesPlan, Makes}
 
 module _ {X : Type 0} (new old : List X) (x : ℕ) (fits : length new ≡ x) where

@@ -1,12 +1,11 @@
 -- A lawful split has a stage for each operator, and the first that holds it is found.
-use Rattle.std.proofs.Common.{◌≡◌, ℕ, zero, suc, ◌+◌, ◌<◌, ◌≤◌, Bool, true, false, cond, not, List, [], ◌∷◌, length, get_or, Some, None, refl, ap, ◌∙◌, arith, lt-ltb}
+use Rattle.std.proofs.Common.{◌≡◌, ℕ, zero, suc, ◌<◌, ◌≤◌, Bool, true, false, cond, List, [], ◌∷◌, length, get_or, Some, None, refl, ap, arith, lt-ltb}
 use Rattle.std.specs.List.{position, position_or_len}
 use Rattle.sets.specs.Sets.{has}
 use Rattle.sheet.specs.Nets.{Net}
-use Rattle.scale.specs.Rules.{Rules}
 use Rattle.split.specs.declared.stages.Stage.{Stage}
-use Rattle.split.specs.Splits.{Kinds, Lawful, Least}
-use Rattle.planner.specs.States.{place_of, Covers}
+use Rattle.split.specs.Splits.{Kinds, Lawful}
+use Rattle.planner.specs.States.{Covers}
 
 module _ {X : Type 0} (p : X → Bool) (d : X) where
   one_more : (x : X) (xs : List X) (i : ℕ) (b : Bool) → p x ≡ b → position_or_len p xs ≤ i → position_or_len p (x ∷ xs) ≤ suc i

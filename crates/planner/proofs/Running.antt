@@ -1,5 +1,5 @@
 -- One step more of a list of calls.
-use Rattle.std.proofs.Common.{◌≡◌, ℕ, zero, suc, ◌+◌, ◌<◌, List, [], ◌∷◌, ◌++◌, length, map, take, set, get_or, reverse, Option, Some, Result, true, is_some, refl, sym, ap, ◌∙◌, subst, arith}
+use Rattle.std.proofs.Common.{◌≡◌, ℕ, zero, suc, ◌+◌, ◌<◌, List, [], ◌∷◌, ◌++◌, length, take, set, reverse, Option, Some, Result, sym, ap, ◌∙◌, subst, arith}
 use Rattle.std.specs.List.{All, filter_map, cons_option}
 use Rattle.std.specs.Option.{option_map}
 use Rattle.std.proofs.lemmas.List.{take_more_set, reverse-append}
@@ -11,7 +11,7 @@ use Rattle.planner.specs.declared.calls.Call.{Call}
 use Rattle.planner.specs.declared.calls.Granted.{Granted}
 use Rattle.planner.specs.declared.calls.Step.{Step}
 use Rattle.planner.specs.States.{State}
-use Rattle.planner.specs.Law.{Event, event, Holds}
+use Rattle.planner.specs.Law.{event, Holds}
 use Rattle.planner.specs.Runs.{handed, event_of, history}
 
 module _ {X : Type 0} (P : X → Type 0) where

@@ -6,7 +6,7 @@
 --   Answers n c r      at the sheet n, the call c is answered by r: granted exactly if none of its checks applies, and else told the first that does
 --   AllAnswered h      each call was answered so, at the sheet before it
 --   Holds h p          the law, of a planner p after a history h
-use Rattle.std.specs.Prelude.{◌≡◌, ⊤, ℕ, Bool, true, false, List, [], ◌∷◌, length, Option, None, Some, IfOk, IfSome, Result, Ok, Err, nat_le}
+use Rattle.std.specs.Prelude.{◌≡◌, ⊤, ℕ, true, false, List, [], ◌∷◌, length, Option, None, Some, IfOk, IfSome, Result, Ok, Err, nat_le}
 use Rattle.std.specs.Option.{option_map}
 use Rattle.refusals.specs.declared.Refusal.{Refusal}
 use Rattle.refusals.specs.declared.Refusal.TheVariants.{TooManyIdeals, TooFewCells, NoLawfulSplit}
@@ -24,7 +24,7 @@ use Rattle.planner.specs.declared.calls.Call.{Call}
 use Rattle.planner.specs.declared.calls.Call.TheVariants as calls
 use Rattle.planner.specs.declared.calls.Granted.{Granted}
 use Rattle.planner.specs.declared.calls.Granted.TheVariants.{Added, Changed, Planned}
-use Rattle.planner.specs.States.{Standing, State}
+use Rattle.planner.specs.States.{State}
 
 pub record Event (R : Type 0) : Type 0 where
   pub call : Call

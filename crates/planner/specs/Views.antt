@@ -2,7 +2,7 @@
 --   state p       as plain values
 --   kinds_in p    what its two kinds answer
 --   rules_in p    its scale
-use Rattle.std.specs.Prelude.{◌≡◌, Option, Some, None, Result, MatchResult}
+use Rattle.std.specs.Prelude.{◌≡◌, Some, None, Result, MatchResult}
 use Rattle.std.specs.Borrow.{Bor}
 use Rattle.std.specs.Option.{option_map}
 use Rattle.refusals.specs.declared.Refusal.{Refusal}

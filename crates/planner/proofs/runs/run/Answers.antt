@@ -1,10 +1,10 @@
-use Rattle.std.proofs.Common.{◌≡◌, ◌<◌, true, length, map, take, is_some, Some, slice_index_or, refl, ap, ◌∙◌, subst, arith, rules}
+use Rattle.std.proofs.Common.{◌≡◌, ◌<◌, true, length, is_some, Some, slice_index_or, refl, ◌∙◌, subst, arith}
 use Rattle.std.specs.List.{All}
 use Rattle.std.proofs.Math.Seq.{map-set_same}
 use Rattle.std.proofs.lemmas.List.{take_all}
 use Rattle.planner.specs.declared.calls.Step.{Step}
 use Rattle.planner.specs.Views.{state, kinds_in, rules_in}
-use Rattle.planner.specs.Runs.{call_of, history}
+use Rattle.planner.specs.Runs.{call_of}
 use Rattle.planner.proofs.Running.{all_more, holds_more}
 use Rattle.planner.proofs.runs.run.Goals as goal
 

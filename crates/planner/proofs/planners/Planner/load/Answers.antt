@@ -1,4 +1,4 @@
-use Rattle.std.proofs.Common.{◌≡◌, ap, Ok}
+use Rattle.std.proofs.Common.{ap, Ok}
 use Rattle.sheet.specs.Views.{net}
 use Rattle.planner.specs.States.{edited}
 use Rattle.planner.specs.Views.{state, kinds_in, rules_in}

@@ -1,4 +1,4 @@
-use Rattle.std.proofs.Common.{rules, ◌≡◌, ◌∷◌, length, Ok, Err, sym, ap, ◌∙◌, subst, arith}
+use Rattle.std.proofs.Common.{rules, ◌≡◌, ◌∷◌, length, Ok, sym, ap, subst}
 use Rattle.planner.specs.declared.calls.Granted.TheVariants.{Planned}
 use Rattle.planner.specs.Views.{state, kinds_in, rules_in}
 use Rattle.planner.specs.Law.{by_plan, Holds}

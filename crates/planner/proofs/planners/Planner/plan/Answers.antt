@@ -1,4 +1,4 @@
-use Rattle.std.proofs.Common.{◌≡◌, subst, rules}
+use Rattle.std.proofs.Common.{subst, rules}
 use Rattle.std.proofs.lemmas.Option.{same_Some}
 use Rattle.sheet.specs.Views.{net}
 use Rattle.best_split.specs.Views.{stages_of}
