@@ -51,7 +51,7 @@ module _ {K L S R : Type 0} (e : Kinds) (s : Rules R) (ms ms' : List ℕ) (rs : 
   abbrev fit : Bool
   fit = cells_fit p.net.k p.net.l (length (ideals p.net)) (length rs) (length cs)
 
-  pub plan_judged : (r : Result (Plan R) Refusal) → Plans e s ms ms' rs cs rs' cs' p p' r → PlanJudged e p.net (length ms) (length rs) (length cs) (by_plan r)
+  pub plan_judged : (r : Result (Plan R) Refusal) → Plans e s ms ms' rs cs rs' cs' p p' r → PlanJudged e s p.net (length ms) (length rs) (length cs) (by_plan r)
   plan_judged (Ok a) q =
       record {
         granted = λ enough ss lawful. refl;
@@ -61,7 +61,7 @@ module _ {K L S R : Type 0} (e : Kinds) (s : Rules R) (ms ms' : List ℕ) (rs : 
         enough = λ o. absurd (told_something NoLawfulSplit (sym o));
         none = λ o. absurd (told_something NoLawfulSplit (sym o));
         short = λ not_enough. q.refuses ∙ three_short few fit (is_some (best_of p.net e s)) not_enough;
-        answers = (a, refl, q.answers.2);
+        answers = (a, refl, q.answers.2, (split_of p.net e s, sym q.answers.1, q.least));
       }
   plan_judged (Err x) q =
       let some = is_some (best_of p.net e s) in

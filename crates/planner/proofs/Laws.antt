@@ -1,6 +1,5 @@
 -- The law holds with one call more.
 use Rattle.std.proofs.Common.{◌≡◌, ℕ, List, [], ◌∷◌, length, None, IfOk, IfSome, Result, Ok, Err, refl, sym, ap, ◌∙◌, subst}
-use Rattle.std.specs.Option.{option_map}
 use Rattle.refusals.specs.declared.Refusal.{Refusal}
 use Rattle.refusals.specs.Told.{told, outcome}
 use Rattle.refusals.proofs.Tellings.{told_something}
@@ -18,41 +17,45 @@ use Rattle.planner.specs.declared.calls.Call.{Call}
 use Rattle.planner.specs.declared.calls.Call.TheVariants as calls
 use Rattle.planner.specs.declared.calls.Granted.{Granted}
 use Rattle.planner.specs.declared.calls.Granted.TheVariants.{Added, Changed, Planned}
-use Rattle.planner.specs.States.{Standing, State, edited}
+use Rattle.split.specs.declared.stages.Stage.{Stage}
+use Rattle.planner.specs.States.{State, edited}
+use Rattle.planner.specs.Answers.{rating_answer, stage_of, stage_answer}
 use Rattle.planner.specs.Plans.{Plans}
 use Rattle.planner.proofs.Judging.{plan_judged}
-use Rattle.planner.specs.Law.{Event, event, by_number, by_grant, by_plan, done, present, last_plan, rating_after, Judged, Answers, Holds}
+use Rattle.planner.specs.Law.{Event, event, by_number, by_grant, by_plan, done, present, last_plan, plan_after, rating_by, Judged, Answers, Holds}
 
 pub kept : {X : Type 0} (r : List ℕ) (a b : X) → (r ≡ [] → ⊥) → changed r a b ≡ a
 kept [] a b h = absurd (h refl)
 kept (x ∷ r) a b h = refl
 
 module _ {K L S R : Type 0} (e : Kinds) (s : Rules R) (h : List (Event R)) (p p' : State K L S R) (c : Call) where
+  abbrev Shows : Net → Plan R → State K L S R → Type 0
+  Shows n a q = (ss : List Stage) × (length ss ≡ a.stages) × ((i : ℕ) → stage_answer q.standing i ≡ stage_of ss i) × Least n e s ss a.rating
+
   -- a refused call
-  pub refused : (x : Refusal) → p' ≡ p → Answers {R = R} e p.net c (Err x) → Holds e s h p → Holds e s (event c (Err x) ∷ h) p'
+  pub refused : (x : Refusal) → p' ≡ p → Answers e s p.net c (Err x) → Holds e s h p → Holds e s (event c (Err x) ∷ h) p'
   refused x same right held =
       let still : present (event c (Err x) ∷ h) ≡ present h = kept (told x) (present h) (done c (present h)) (told_something x) in
       record {
         sheet = ap (λ (q : State K L S R). q.net) same ∙ held.sheet ∙ sym still;
-        stands = ap (λ (q : State K L S R). option_map (λ (t : Standing R). t.rating) q.standing) same ∙ held.stands;
-        least = subst (λ n. IfSome p'.standing (λ (t : Standing R). Least n e s t.stages t.rating)) (sym still)
-            (subst (λ (q : State K L S R). IfSome q.standing (λ (t : Standing R). Least (present h) e s t.stages t.rating)) (sym same) held.least);
-        answered = (subst (λ n. Answers {R = R} e n c (Err x)) held.sheet right, held.answered);
+        stands = ap (λ (q : State K L S R). rating_answer q.standing) same ∙ held.stands;
+        least = subst (λ n. IfSome (last_plan h) (λ a. Shows n a p')) (sym still) (subst (λ (q : State K L S R). IfSome (last_plan h) (λ a. Shows (present h) a q)) (sym same) held.least);
+        answered = (subst (λ n. Answers e s n c (Err x)) held.sheet right, held.answered);
       }
 
   -- a granted call that takes the split away
-  pub granted : (g : Granted R) (n : Net) → p' ≡ edited n p → n ≡ done c p.net → rating_after (last_plan h) (Ok g) ≡ None → Answers {R = R} e p.net c (Ok g) → Holds e s h p → Holds e s (event c (Ok g) ∷ h) p'
+  pub granted : (g : Granted R) (n : Net) → p' ≡ edited n p → n ≡ done c p.net → plan_after (last_plan h) (Ok g) ≡ None → Answers e s p.net c (Ok g) → Holds e s h p → Holds e s (event c (Ok g) ∷ h) p'
   granted g n now is gone right held =
       record {
         sheet = ap (λ (q : State K L S R). q.net) now ∙ is ∙ ap (done c) held.sheet;
-        stands = ap (λ (q : State K L S R). option_map (λ (t : Standing R). t.rating) q.standing) now ∙ sym gone;
-        least = subst (λ (q : State K L S R). IfSome q.standing (λ (t : Standing R). Least (present (event c (Ok g) ∷ h)) e s t.stages t.rating)) (sym now) tt;
-        answered = (subst (λ n. Answers {R = R} e n c (Ok g)) held.sheet right, held.answered);
+        stands = ap (λ (q : State K L S R). rating_answer q.standing) now ∙ ap rating_by (sym gone);
+        least = subst (λ o. IfSome o (λ a. Shows (present (event c (Ok g) ∷ h)) a p')) (sym gone) tt;
+        answered = (subst (λ n. Answers e s n c (Ok g)) held.sheet right, held.answered);
       }
 
 module _ {K L S R : Type 0} (e : Kinds) (s : Rules R) (h : List (Event R)) (p p' : State K L S R) where
   -- a call that answers nothing but that it is granted
-  change : (c : Call) (n : Net) (check : List ℕ) (r : Result (Unit {0}) Refusal) → n ≡ done c p.net → ((a : Result (Granted R) Refusal) → Judged check Changed a → Answers {R = R} e p.net c a)
+  change : (c : Call) (n : Net) (check : List ℕ) (r : Result (Unit {0}) Refusal) → n ≡ done c p.net → ((a : Result (Granted R) Refusal) → Judged check Changed a → Answers e s p.net c a)
       → outcome r ≡ check → p' ≡ changed (outcome r) p (edited n p) → Holds e s h p → Holds e s (event c (by_grant r) ∷ h) p'
   change c n check (Ok u) is right told_so now held = granted e s h p p' c Changed n now is refl (right (Ok Changed) (told_so, refl)) held
   change c n check (Err x) is right told_so now held = refused e s h p p' c x (now ∙ kept (told x) p (edited n p) (told_something x)) (right (Err x) (told_so, tt)) held
@@ -85,13 +88,11 @@ module _ {K L S R : Type 0} (e : Kinds) (s : Rules R) (h : List (Event R)) (p p'
   pub after_plan : (ms ms' : List ℕ) (rs : List R) (cs : List Choice) (rs' : List R) (cs' : List Choice) (r : Result (Plan R) Refusal)
       → Plans e s ms ms' rs cs rs' cs' p p' r → Holds e s h p → Holds e s (event (calls.Plan (length ms) (length rs) (length cs)) (by_plan r) ∷ h) p'
   after_plan ms ms' rs cs rs' cs' (Ok a) q held =
-      let t : Standing R = record { rating = a.rating; stages = split_of p.net e s } in
       record {
         sheet = ap (λ (q : State K L S R). q.net) q.settles ∙ held.sheet;
-        stands = ap (λ (q : State K L S R). option_map (λ (t : Standing R). t.rating) q.standing) q.settles;
-        least = subst (λ (q : State K L S R). IfSome q.standing (λ (t : Standing R). Least (present h) e s t.stages t.rating)) (sym q.settles)
-            (subst (λ n. Least n e s t.stages t.rating) held.sheet q.least);
-        answered = (subst (λ n. Answers {R = R} e n (calls.Plan (length ms) (length rs) (length cs)) (Ok (Planned a))) held.sheet (plan_judged e s ms ms' rs cs rs' cs' p p' (Ok a) q), held.answered);
+        stands = ap (λ (q : State K L S R). rating_answer q.standing) q.settles;
+        least = (split_of p.net e s, sym q.answers.1, (λ i. ap (λ (q : State K L S R). stage_answer q.standing i) q.settles), subst (λ n. Least n e s (split_of p.net e s) a.rating) held.sheet q.least);
+        answered = (subst (λ n. Answers e s n (calls.Plan (length ms) (length rs) (length cs)) (Ok (Planned a))) held.sheet (plan_judged e s ms ms' rs cs rs' cs' p p' (Ok a) q), held.answered);
       }
   after_plan ms ms' rs cs rs' cs' (Err x) q held =
       refused e s h p p' (calls.Plan (length ms) (length rs) (length cs)) x q.settles (plan_judged e s ms ms' rs cs rs' cs' p p' (Err x) q) held

@@ -27,7 +27,7 @@ module _ {K L S R : Type 0} (e : Kinds) (s : Rules R) (ms ms' : List ℕ) (rs : 
       → MakesPlan e s ms (ms' ++ drop x ms) rs cs (rs' ++ drop y rs) (cs' ++ drop z cs) p p' x y z (by_plan q)
   made_plan q i j k plans = record {
     answer = q;
-    told = refl;
+    comes = refl;
     plans = rw (front ms' ms x i, front rs' rs y j, front cs' cs z k) plans;
     more_ideals = back ms' ms x i;
     more_ratings = back rs' rs y j;

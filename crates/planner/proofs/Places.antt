@@ -1,11 +1,12 @@
 -- A lawful split has a stage for each operator, and the first that holds it is found.
-use Rattle.std.proofs.Common.{◌≡◌, ℕ, zero, suc, ◌<◌, ◌≤◌, Bool, true, false, cond, List, [], ◌∷◌, length, get_or, Some, None, refl, ap, arith, lt-ltb}
+use Rattle.std.proofs.Common.{◌≡◌, ℕ, zero, suc, ◌<◌, ◌≤◌, Bool, true, false, cond, not, List, [], ◌∷◌, length, get_or, Some, None, refl, ap, arith, lt-ltb}
 use Rattle.std.specs.List.{position, position_or_len}
+use Rattle.std.proofs.lemmas.List.Sums.{prefix_len_stops}
 use Rattle.sets.specs.Sets.{has}
 use Rattle.sheet.specs.Nets.{Net}
 use Rattle.split.specs.declared.stages.Stage.{Stage}
-use Rattle.split.specs.Splits.{Kinds, Lawful}
-use Rattle.planner.specs.States.{Covers}
+use Rattle.split.specs.Splits.{Kinds, Lawful, At, stage_at}
+use Rattle.planner.specs.States.{Covers, place_of}
 
 module _ {X : Type 0} (p : X → Bool) (d : X) where
   one_more : (x : X) (xs : List X) (i : ℕ) (b : Bool) → p x ≡ b → position_or_len p xs ≤ i → position_or_len p (x ∷ xs) ≤ suc i
@@ -24,3 +25,10 @@ covered n e ss lawful v near =
 
 pub position_there : {X : Type 0} (p : X → Bool) (xs : List X) → position_or_len p xs < length xs → position p xs ≡ Some (position_or_len p xs)
 position_there p xs h = ap (λ b. cond b (Some (position_or_len p xs)) None) (lt-ltb (position_or_len p xs) (length xs) h)
+
+pub stage_there : (ss : List Stage) (v : ℕ) → place_of ss v < length ss → At ss (place_of ss v) v
+stage_there ss v h = (h, not_false (has (stage_at ss (place_of ss v)).mask v) (prefix_len_stops (λ (st : Stage). not (has st.mask v)) ss (record { mask = 0; kind = 0 }) h))
+  where
+    not_false : (b : Bool) → not b ≡ false → b ≡ true
+    not_false true q = refl
+    not_false false q = absurd (cc)

@@ -1,5 +1,5 @@
 -- One step more of a list of calls.
-use Rattle.std.proofs.Common.{◌≡◌, ℕ, zero, suc, ◌+◌, ◌<◌, List, [], ◌∷◌, ◌++◌, length, take, set, reverse, Option, Some, Result, sym, ap, ◌∙◌, subst, arith}
+use Rattle.std.proofs.Common.{◌≡◌, ℕ, zero, suc, ◌+◌, ◌<◌, List, [], ◌∷◌, ◌++◌, length, take, set, reverse, Option, Some, Result, sym, ap, ◌∙◌, subst, arith, refl}
 use Rattle.std.specs.List.{All, filter_map, cons_option}
 use Rattle.std.specs.Option.{option_map}
 use Rattle.std.proofs.lemmas.List.{take_more_set, reverse-append}
@@ -12,7 +12,7 @@ use Rattle.planner.specs.declared.calls.Granted.{Granted}
 use Rattle.planner.specs.declared.calls.Step.{Step}
 use Rattle.planner.specs.States.{State}
 use Rattle.planner.specs.Law.{event, Holds}
-use Rattle.planner.specs.Runs.{handed, event_of, history}
+use Rattle.planner.specs.Runs.{handed, event_of, history, Lent, Makes, Ran}
 
 module _ {X : Type 0} (P : X → Type 0) where
   one : (y : X) → P y → All P (y ∷ [])
@@ -43,3 +43,11 @@ module _ {K L S R : Type 0} (e e' : Kinds) (s s' : Rules R) (a b c a' b' c' : �
       (subst (λ u. Holds e u (history a b c (take (i + 1) (set xs i y))) p) (sym ss)
       (subst (λ u. Holds e s u p) (sym (history_more a b c xs i y r near told))
       (subst (λ u. Holds e s (event (handed a b c u) r ∷ h) p) (sym same) there)))
+
+module _ {K L S R : Type 0} (e : Kinds) (s : Rules R) where
+  pub ran_more : (xs : List (Step R)) (x : Step R) (r : Result (Granted R) Refusal) (t u t' : Lent R) (p q p' : State K L S R) → Ran e s xs t p u q → x.answer ≡ Some r
+      → Makes e s u.ideals t'.ideals u.ratings u.choices t'.ratings t'.choices q p' x.call r → Ran e s (xs ++ (x ∷ [])) t p t' p'
+  ran_more [] x r t u t' p q p' ran told made =
+      (r, t', p', told, subst (λ v. Makes e s v.ideals t'.ideals v.ratings v.choices t'.ratings t'.choices p p' x.call r) ran.0 (subst (λ v. Makes e s u.ideals t'.ideals u.ratings u.choices t'.ratings t'.choices v p' x.call r) ran.1 made), (refl, refl))
+  ran_more (y ∷ ys) x r t u t' p q p' ran told made =
+      (ran.0, ran.1, ran.2, ran.3, ran.4, ran_more ys x r ran.1 u t' ran.2 q p' ran.5 told made)

@@ -2,14 +2,14 @@
 --   Event              a call with all that it was handed, and what came back
 --   done c n           the sheet that a granted call makes of the sheet n
 --   present h          the sheet by the calls alone; of a history h the newest call comes first
---   last_plan h        the rating that the last granted call answered, if that call is a plan
+--   last_plan h        what the last granted call answered, if that call is a plan
+--   rating_by a        what rating answers after it
 --   Answers n c r      at the sheet n, the call c is answered by r: granted exactly if none of its checks applies, and else told the first that does
 --   AllAnswered h      each call was answered so, at the sheet before it
 --   Holds h p          the law, of a planner p after a history h
 use Rattle.std.specs.Prelude.{◌≡◌, ⊤, ℕ, true, false, List, [], ◌∷◌, length, Option, None, Some, IfOk, IfSome, Result, Ok, Err, nat_le}
-use Rattle.std.specs.Option.{option_map}
 use Rattle.refusals.specs.declared.Refusal.{Refusal}
-use Rattle.refusals.specs.declared.Refusal.TheVariants.{TooManyIdeals, TooFewCells, NoLawfulSplit}
+use Rattle.refusals.specs.declared.Refusal.TheVariants.{TooManyIdeals, TooFewCells, NoLawfulSplit, NoSplit}
 use Rattle.refusals.specs.Told.{told, outcome}
 use Rattle.sheet.specs.Nets.{Net, size, empty}
 use Rattle.sheet.specs.Changes.{unless, first, changed, add_refusal, added, join_refusal, joined, retime_refusal, retimed, count_refusal, counted}
@@ -25,6 +25,7 @@ use Rattle.planner.specs.declared.calls.Call.TheVariants as calls
 use Rattle.planner.specs.declared.calls.Granted.{Granted}
 use Rattle.planner.specs.declared.calls.Granted.TheVariants.{Added, Changed, Planned}
 use Rattle.planner.specs.States.{State}
+use Rattle.planner.specs.Answers.{rating_answer, stage_of, stage_answer}
 
 pub record Event (R : Type 0) : Type 0 where
   pub call : Call
@@ -65,16 +66,20 @@ module _ {R : Type 0} where
 
   -- ---- the last plan
 
-  -- what becomes of the rating r by an answer
-  abbrev pub rating_after : Option R → Result (Granted R) Refusal → Option R
-  rating_after r (Err e) = r
-  rating_after r (Ok (Added v)) = None
-  rating_after r (Ok Changed) = None
-  rating_after r (Ok (Planned p)) = Some p.rating
+  -- what becomes of it by an answer
+  abbrev pub plan_after : Option (Plan R) → Result (Granted R) Refusal → Option (Plan R)
+  plan_after a (Err e) = a
+  plan_after a (Ok (Added v)) = None
+  plan_after a (Ok Changed) = None
+  plan_after a (Ok (Planned p)) = Some p
 
-  abbrev pub last_plan : List (Event R) → Option R
+  abbrev pub last_plan : List (Event R) → Option (Plan R)
   last_plan [] = None
-  last_plan (x ∷ h) = rating_after (last_plan h) x.answer
+  last_plan (x ∷ h) = plan_after (last_plan h) x.answer
+
+  abbrev pub rating_by : Option (Plan R) → Result R Refusal
+  rating_by None = Err NoSplit
+  rating_by (Some a) = Ok a.rating
 
 -- ---- what is answered
 
@@ -83,7 +88,7 @@ abbrev pub Judged : {R : Type 0} → List ℕ → Granted R → Result (Granted 
 Judged refusal g r = (outcome r ≡ refusal) × IfOk r (λ x. x ≡ g)
 
 -- a plan with tables of the lengths a, b and c
-module _ {R : Type 0} (e : Kinds) (n : Net) (a b c : ℕ) (r : Result (Granted R) Refusal) where
+module _ {R : Type 0} (e : Kinds) (s : Rules R) (n : Net) (a b c : ℕ) (r : Result (Granted R) Refusal) where
   pub record PlanJudged : Type 0 where
     -- granted exactly if the tables suffice and the sheet has a lawful split
     pub granted : tables_suffice n a b c ≡ true → (ss : List Stage) → Lawful n e ss → outcome r ≡ []
@@ -95,10 +100,10 @@ module _ {R : Type 0} (e : Kinds) (n : Net) (a b c : ℕ) (r : Result (Granted R
     pub none : outcome r ≡ told NoLawfulSplit → (ss : List Stage) → Lawful n e ss → ⊥
     -- else told of the first table that is too short
     pub short : tables_suffice n a b c ≡ false → outcome r ≡ first (unless (nat_le (length (ideals n)) (room a)) (told TooManyIdeals)) (told TooFewCells)
-    -- with the number of ideals
-    pub answers : IfOk r (λ g. (p : Plan R) × (g ≡ Planned p) × (p.ideals ≡ length (ideals n)))
+    -- the answer is the rating and the number of stages of a least split, and the number of ideals
+    pub answers : IfOk r (λ g. (p : Plan R) × (g ≡ Planned p) × (p.ideals ≡ length (ideals n)) × ((ss : List Stage) × (length ss ≡ p.stages) × Least n e s ss p.rating))
 
-module _ {R : Type 0} (e : Kinds) (n : Net) where
+module _ {R : Type 0} (e : Kinds) (s : Rules R) (n : Net) where
   abbrev pub Answers : Call → Result (Granted R) Refusal → Type 0
   Answers (calls.Add o) r = Judged (add_refusal n o) (Added (size n)) r
   Answers (calls.Join u v) r = Judged (join_refusal n u v) Changed r
@@ -106,21 +111,21 @@ module _ {R : Type 0} (e : Kinds) (n : Net) where
   Answers (calls.Count k l) r = Judged (count_refusal k l) Changed r
   Answers (calls.Load f) r = Judged (file_refusal f.now) Changed r
   Answers calls.Clear r = Judged [] Changed r
-  Answers (calls.Plan a b c) r = PlanJudged e n a b c r
+  Answers (calls.Plan a b c) r = PlanJudged e s n a b c r
 
 -- ---- the law
 
 module _ {R : Type 0} (e : Kinds) (s : Rules R) where
   abbrev pub AllAnswered : List (Event R) → Type 0
   AllAnswered [] = ⊤
-  AllAnswered (x ∷ h) = Answers e (present h) x.call x.answer × AllAnswered h
+  AllAnswered (x ∷ h) = Answers e s (present h) x.call x.answer × AllAnswered h
 
   pub record Holds {K L S : Type 0} (h : List (Event R)) (p : State K L S R) : Type 0 where
     -- the planner has the present sheet
     pub sheet : p.net ≡ present h
-    -- a split stands exactly if the last granted call is a plan, and it has the rating that this plan answered
-    pub stands : option_map (λ t. t.rating) p.standing ≡ last_plan h
-    -- it is lawful for the present sheet, and no lawful split rates lower
-    pub least : IfSome p.standing (λ t. Least (present h) e s t.stages t.rating)
-    -- each call was answered as the sheet before it demands
+    -- a split stands, so that rating is not refused, exactly if the last granted call is a plan, and rating answers what this plan did
+    pub stands : rating_answer p.standing ≡ rating_by (last_plan h)
+    -- the stages that stage answers, from 0 until it is refused, are lawful for the present sheet, and no lawful split rates lower
+    pub least : IfSome (last_plan h) (λ a. (ss : List Stage) × (length ss ≡ a.stages) × ((i : ℕ) → stage_answer p.standing i ≡ stage_of ss i) × Least (present h) e s ss a.rating)
+    -- each call was answered rightly, at the sheet before it
     pub answered : AllAnswered h

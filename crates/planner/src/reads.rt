@@ -2,6 +2,8 @@
 ghost use Rattle.std.specs.Prelude.{◌≡◌, length, IfOk, OnErr, MatchResult};
 ghost use Rattle.refusals.specs.Told.{outcome};
 ghost use Rattle.sheet_writer.specs.Writes.{Writes, Keeps};
+ghost use Rattle.std.specs.Option.{ForSome};
+ghost use Rattle.split.specs.Splits.{At};
 ghost use Rattle.split.specs.Problems.{net_of, kinds_of};
 ghost use Rattle.pages.specs.Pages.{HasPage};
 ghost use Rattle.planner.specs.Answers.{rating_answer, stage_answer, place_answer, margin_answer, page_told, page_text};
@@ -44,7 +46,8 @@ impl<K: Kind, L: Kind, S: Scale> Planner<K, L, S> {
 
     // The number of the stage that holds an operator.
     pub fn place(&self, v: usize) -> Result<usize, Refusal>
-        ensures { result ≡ place_answer (state self.now).net (state self.now).standing v }
+        ensures value { result ≡ place_answer (state self.now).net (state self.now).standing v }
+        ensures holds { IfOk result (λ i. ForSome (state self.now).standing (λ split. At split.stages i v)) }
     {
         let stages = self.found()?.split.stages();
         if v >= self.sheet.operators() {
