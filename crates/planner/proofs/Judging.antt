@@ -61,6 +61,7 @@ module _ {K L S R : Type 0} (e : Kinds) (s : Rules R) (ms ms' : List ℕ) (rs : 
         enough = λ o. absurd (told_something NoLawfulSplit (sym o));
         none = λ o. absurd (told_something NoLawfulSplit (sym o));
         short = λ not_enough. q.refuses ∙ three_short few fit (is_some (best_of p.net e s)) not_enough;
+        refuses = q.refuses;
         answers = (a, refl, q.answers.2, (split_of p.net e s, sym q.answers.1, q.least));
       }
   plan_judged (Err x) q =
@@ -73,5 +74,6 @@ module _ {K L S R : Type 0} (e : Kinds) (s : Rules R) (ms ms' : List ℕ) (rs : 
         enough = λ o. three_enough few fit some (sym q.refuses ∙ o);
         none = λ o. q.none o;
         short = λ not_enough. q.refuses ∙ three_short few fit some not_enough;
+        refuses = q.refuses;
         answers = tt;
       }

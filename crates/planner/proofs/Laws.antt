@@ -18,7 +18,7 @@ use Rattle.planner.specs.declared.calls.Call.TheVariants as calls
 use Rattle.planner.specs.declared.calls.Granted.{Granted}
 use Rattle.planner.specs.declared.calls.Granted.TheVariants.{Added, Changed, Planned}
 use Rattle.split.specs.declared.stages.Stage.{Stage}
-use Rattle.planner.specs.States.{State, edited}
+use Rattle.planner.specs.States.{Standing, State, edited}
 use Rattle.planner.specs.Answers.{rating_answer, stage_of, stage_answer}
 use Rattle.planner.specs.Plans.{Plans}
 use Rattle.planner.proofs.Judging.{plan_judged}
@@ -40,6 +40,7 @@ module _ {K L S R : Type 0} (e : Kinds) (s : Rules R) (h : List (Event R)) (p p'
         sheet = ap (λ (q : State K L S R). q.net) same ∙ held.sheet ∙ sym still;
         stands = ap (λ (q : State K L S R). rating_answer q.standing) same ∙ held.stands;
         least = subst (λ n. IfSome (last_plan h) (λ a. Shows n a p')) (sym still) (subst (λ (q : State K L S R). IfSome (last_plan h) (λ a. Shows (present h) a q)) (sym same) held.least);
+        exact = subst (λ n. IfSome p'.standing (λ (t : Standing R). t.stages ≡ split_of n e s)) (sym still) (subst (λ (q : State K L S R). IfSome q.standing (λ (t : Standing R). t.stages ≡ split_of (present h) e s)) (sym same) held.exact);
         answered = (subst (λ n. Answers e s n c (Err x)) held.sheet right, held.answered);
       }
 
@@ -50,6 +51,7 @@ module _ {K L S R : Type 0} (e : Kinds) (s : Rules R) (h : List (Event R)) (p p'
         sheet = ap (λ (q : State K L S R). q.net) now ∙ is ∙ ap (done c) held.sheet;
         stands = ap (λ (q : State K L S R). rating_answer q.standing) now ∙ ap rating_by (sym gone);
         least = subst (λ o. IfSome o (λ a. Shows (present (event c (Ok g) ∷ h)) a p')) (sym gone) tt;
+        exact = subst (λ (q : State K L S R). IfSome q.standing (λ (t : Standing R). t.stages ≡ split_of (present (event c (Ok g) ∷ h)) e s)) (sym now) tt;
         answered = (subst (λ n. Answers e s n c (Ok g)) held.sheet right, held.answered);
       }
 
@@ -92,6 +94,7 @@ module _ {K L S R : Type 0} (e : Kinds) (s : Rules R) (h : List (Event R)) (p p'
         sheet = ap (λ (q : State K L S R). q.net) q.settles ∙ held.sheet;
         stands = ap (λ (q : State K L S R). rating_answer q.standing) q.settles;
         least = (split_of p.net e s, sym q.answers.1, (λ i. ap (λ (q : State K L S R). stage_answer q.standing i) q.settles), subst (λ n. Least n e s (split_of p.net e s) a.rating) held.sheet q.least);
+        exact = subst (λ (q : State K L S R). IfSome q.standing (λ (t : Standing R). t.stages ≡ split_of (present h) e s)) (sym q.settles) (ap (λ n. split_of n e s) held.sheet);
         answered = (subst (λ n. Answers e s n (calls.Plan (length ms) (length rs) (length cs)) (Ok (Planned a))) held.sheet (plan_judged e s ms ms' rs cs rs' cs' p p' (Ok a) q), held.answered);
       }
   after_plan ms ms' rs cs rs' cs' (Err x) q held =

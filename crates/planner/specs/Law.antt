@@ -18,7 +18,8 @@ use Rattle.scale.specs.Rules.{Rules}
 use Rattle.split.specs.declared.stages.Stage.{Stage}
 use Rattle.split.specs.Splits.{Kinds, Lawful, Least}
 use Rattle.ideals.specs.Ideals.{ideals, room}
-use Rattle.best_split.specs.Finds.{tables_suffice}
+use Rattle.recurrence.specs.Planned.{split_of}
+use Rattle.best_split.specs.Finds.{tables_suffice, find_refusal}
 use Rattle.planner.specs.declared.plans.Plan.{Plan}
 use Rattle.planner.specs.declared.calls.Call.{Call}
 use Rattle.planner.specs.declared.calls.Call.TheVariants as calls
@@ -100,6 +101,8 @@ module _ {R : Type 0} (e : Kinds) (s : Rules R) (n : Net) (a b c : ℕ) (r : Res
     pub none : outcome r ≡ told NoLawfulSplit → (ss : List Stage) → Lawful n e ss → ⊥
     -- else told of the first table that is too short
     pub short : tables_suffice n a b c ≡ false → outcome r ≡ first (unless (nat_le (length (ideals n)) (room a)) (told TooManyIdeals)) (told TooFewCells)
+    -- all of which is one list of checks, the last of them by the recurrence
+    pub refuses : outcome r ≡ find_refusal n e s a b c
     -- the answer is the rating and the number of stages of a least split, and the number of ideals
     pub answers : IfOk r (λ g. (p : Plan R) × (g ≡ Planned p) × (p.ideals ≡ length (ideals n)) × ((ss : List Stage) × (length ss ≡ p.stages) × Least n e s ss p.rating))
 
@@ -127,5 +130,7 @@ module _ {R : Type 0} (e : Kinds) (s : Rules R) where
     pub stands : rating_answer p.standing ≡ rating_by (last_plan h)
     -- the stages that stage answers, from 0 until it is refused, are lawful for the present sheet, and no lawful split rates lower
     pub least : IfSome (last_plan h) (λ a. (ss : List Stage) × (length ss ≡ a.stages) × ((i : ℕ) → stage_answer p.standing i ≡ stage_of ss i) × Least (present h) e s ss a.rating)
+    -- of the least splits it is the one that the recurrence finds
+    pub exact : IfSome p.standing (λ t. t.stages ≡ split_of (present h) e s)
     -- each call was answered rightly, at the sheet before it
     pub answered : AllAnswered h
