@@ -1,4 +1,6 @@
 pub mod Lowest
+pub mod Highest
+pub mod Tails
 pub mod Masks
 pub mod Parts
 pub mod Below

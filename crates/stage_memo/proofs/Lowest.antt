@@ -8,7 +8,7 @@ use Rattle.std.proofs.lemmas.Bool.Decides.{nat_tests}
 use Rattle.sets.specs.Sets.{has, In, without, including, members}
 use Rattle.sets.proofs.Sets.{has_difference, has_including, has_single, same_sets}
 use Rattle.sets.proofs.Members.{kept_first, members_more, members_none}
-use Rattle.stage_memo.specs.Lowest.{IsLowest}
+use Rattle.stage_memo.specs.Ends.{IsLowest}
 
 pub members_empty : (m : ℕ) → m < 2 ^ 64 → members m ≡ [] → m ≡ 0
 members_empty m small none = elim (cases_lt 0 m) [

@@ -1,3 +1,4 @@
 pub mod Known
-pub mod Lowest
+pub mod Ends
+pub mod Parts
 pub mod Views

@@ -7,9 +7,10 @@ ghost use Rattle.sheet.specs.Nets.{row as row_of};
 ghost use Rattle.sheet.specs.Figures.{figures_of};
 ghost use Rattle.sheet.specs.Views.{net, sums};
 ghost use Rattle.stage_memo.specs.Known.{Right};
+ghost use Rattle.stage_memo.specs.Parts.{Tail};
 
 use super::known::Known;
-use super::splits::split_lowest;
+use super::splits::{split_highest, split_lowest};
 use sheet::{Operator, Sheet, StageFigures};
 use std::array;
 
@@ -92,22 +93,35 @@ impl<'a> StageMemo<'a> {
         }
     }
 
-    // Comes to know a set, if it is not known, from what is known of its operators but the lowest.
+    // What is known of the largest part of a set that lacks only lowest operators of it: the part without operators, if no other.
+    fn part(&self, mask: u64) -> Known
+        ensures tail { Tail mask result.figures.mask }
+        ensures right { Right (memo_net self.now) result }
+    {
+        let mut rest = mask;
+        while let Some((v, others)) = split_lowest(rest) {
+            let entry = self.known[v];
+            if entry.figures.mask == rest {
+                return entry;
+            }
+            rest = others;
+        }
+        Known::of_none()
+    }
+
+    // Comes to know a set: adds the operators that its known part lacks, each below all before.
     fn reach(&mut self, mask: u64) -> Known
         ensures mask { result.figures.mask ≡ mask }
         ensures right { Right (memo_net self.old) result }
         ensures keeps { memo_net self.new ≡ memo_net self.old }
     {
-        let Some((v, others)) = split_lowest(mask) else {
-            return Known::of_none();
-        };
-        let entry = self.known[v];
-        if entry.figures.mask == mask {
-            return entry;
+        let mut known = self.part(mask);
+        let mut left = sets::difference(mask, known.figures.mask);
+        while let Some((v, others)) = split_highest(left) {
+            known = self.with_below(known, v);
+            self.known[v] = known;
+            left = others;
         }
-        let above = self.reach(others);
-        let known = self.with_below(above, v);
-        self.known[v] = known;
         known
     }
 
