@@ -110,7 +110,9 @@ impl<'a> StageMemo<'a> {
     }
 
     // Comes to know a set: adds the operators that its known part lacks, each below all before.
-    fn reach(&mut self, mask: u64) -> Known
+    // Kept out of the loops over pairs of sets, where mostly a set is known.
+    #[inline(never)]
+    fn settle(&mut self, mask: u64) -> Known
         ensures mask { result.figures.mask ≡ mask }
         ensures right { Right (memo_net self.old) result }
         ensures keeps { memo_net self.new ≡ memo_net self.old }
@@ -123,6 +125,22 @@ impl<'a> StageMemo<'a> {
             left = others;
         }
         known
+    }
+
+    // What is known of a set, which it comes to know if it is not.
+    fn reach(&mut self, mask: u64) -> Known
+        ensures mask { result.figures.mask ≡ mask }
+        ensures right { Right (memo_net self.old) result }
+        ensures keeps { memo_net self.new ≡ memo_net self.old }
+    {
+        let Some((v, _)) = split_lowest(mask) else {
+            return Known::of_none();
+        };
+        let entry = self.known[v];
+        if entry.figures.mask == mask {
+            return entry;
+        }
+        self.settle(mask)
     }
 
     // The figures of a set of operators as a stage. Bits that stand for no operator add nothing.

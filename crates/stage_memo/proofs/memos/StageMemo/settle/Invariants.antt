@@ -2,7 +2,7 @@ use Rattle.std.proofs.Common.{◌≡◌}
 use Rattle.stage_memo.specs.Known.{Right}
 use Rattle.stage_memo.specs.Views.{memo_net}
 use Rattle.stage_memo.proofs.Tails.{Parted}
-use Rattle.stage_memo.proofs.memos.StageMemo.reach.Given as goal
+use Rattle.stage_memo.proofs.memos.StageMemo.settle.Given as goal
 
 abbrev pub invariant-loop-v : goal.invariant-loop-v
 invariant-loop-v l = record {
