@@ -67,18 +67,19 @@ impl<'a> StageMemo<'a> {
     {
         let old = above.figures;
         let row = self.row(v);
+        let link = row.link;
         let mask = sets::include(old.mask, v);
         let predecessors = self.predecessors[v];
         let fresh = self.links(sets::difference(predecessors, above.feeding));
         let kept = if sets::holds(above.feeding, v) {
-            old.incoming - row.link
+            old.incoming - link
         } else {
             old.incoming
         };
         let outgoing = if sets::is_inside(self.sheet.successors(v), old.mask) {
             old.outgoing
         } else {
-            old.outgoing + row.link
+            old.outgoing + link
         };
         Known {
             figures: StageFigures {
