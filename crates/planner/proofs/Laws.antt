@@ -29,6 +29,9 @@ kept [] a b h = absurd (h refl)
 kept (x ∷ r) a b h = refl
 
 module _ {K L S R : Type 0} (e : Kinds) (s : Rules R) (h : List (Event R)) (p p' : State K L S R) (c : Call) where
+  abbrev Exact : Net → Standing R → Type 0
+  Exact n t = (t.stages ≡ split_of n e s) × Least n e s t.stages t.rating
+
   abbrev Shows : Net → Plan R → State K L S R → Type 0
   Shows n a q = (ss : List Stage) × (length ss ≡ a.stages) × ((i : ℕ) → stage_answer q.standing i ≡ stage_of ss i) × Least n e s ss a.rating
 
@@ -40,7 +43,7 @@ module _ {K L S R : Type 0} (e : Kinds) (s : Rules R) (h : List (Event R)) (p p'
         sheet = ap (λ (q : State K L S R). q.net) same ∙ held.sheet ∙ sym still;
         stands = ap (λ (q : State K L S R). rating_answer q.standing) same ∙ held.stands;
         least = subst (λ n. IfSome (last_plan h) (λ a. Shows n a p')) (sym still) (subst (λ (q : State K L S R). IfSome (last_plan h) (λ a. Shows (present h) a q)) (sym same) held.least);
-        exact = subst (λ n. IfSome p'.standing (λ (t : Standing R). t.stages ≡ split_of n e s)) (sym still) (subst (λ (q : State K L S R). IfSome q.standing (λ (t : Standing R). t.stages ≡ split_of (present h) e s)) (sym same) held.exact);
+        exact = subst (λ n. IfSome p'.standing (λ (t : Standing R). Exact n t)) (sym still) (subst (λ (q : State K L S R). IfSome q.standing (λ (t : Standing R). Exact (present h) t)) (sym same) held.exact);
         answered = (subst (λ n. Answers e s n c (Err x)) held.sheet right, held.answered);
       }
 
@@ -51,7 +54,7 @@ module _ {K L S R : Type 0} (e : Kinds) (s : Rules R) (h : List (Event R)) (p p'
         sheet = ap (λ (q : State K L S R). q.net) now ∙ is ∙ ap (done c) held.sheet;
         stands = ap (λ (q : State K L S R). rating_answer q.standing) now ∙ ap rating_by (sym gone);
         least = subst (λ o. IfSome o (λ a. Shows (present (event c (Ok g) ∷ h)) a p')) (sym gone) tt;
-        exact = subst (λ (q : State K L S R). IfSome q.standing (λ (t : Standing R). t.stages ≡ split_of (present (event c (Ok g) ∷ h)) e s)) (sym now) tt;
+        exact = subst (λ (q : State K L S R). IfSome q.standing (λ (t : Standing R). Exact (present (event c (Ok g) ∷ h)) t)) (sym now) tt;
         answered = (subst (λ n. Answers e s n c (Ok g)) held.sheet right, held.answered);
       }
 
@@ -94,7 +97,7 @@ module _ {K L S R : Type 0} (e : Kinds) (s : Rules R) (h : List (Event R)) (p p'
         sheet = ap (λ (q : State K L S R). q.net) q.settles ∙ held.sheet;
         stands = ap (λ (q : State K L S R). rating_answer q.standing) q.settles;
         least = (split_of p.net e s, sym q.answers.1, (λ i. ap (λ (q : State K L S R). stage_answer q.standing i) q.settles), subst (λ n. Least n e s (split_of p.net e s) a.rating) held.sheet q.least);
-        exact = subst (λ (q : State K L S R). IfSome q.standing (λ (t : Standing R). t.stages ≡ split_of (present h) e s)) (sym q.settles) (ap (λ n. split_of n e s) held.sheet);
+        exact = subst (λ (q : State K L S R). IfSome q.standing (λ (t : Standing R). (t.stages ≡ split_of (present h) e s) × Least (present h) e s t.stages t.rating)) (sym q.settles) (ap (λ n. split_of n e s) held.sheet, subst (λ n. Least n e s (split_of p.net e s) a.rating) held.sheet q.least);
         answered = (subst (λ n. Answers e s n (calls.Plan (length ms) (length rs) (length cs)) (Ok (Planned a))) held.sheet (plan_judged e s ms ms' rs cs rs' cs' p p' (Ok a) q), held.answered);
       }
   after_plan ms ms' rs cs rs' cs' (Err x) q held =

@@ -130,7 +130,7 @@ module _ {R : Type 0} (e : Kinds) (s : Rules R) where
     pub stands : rating_answer p.standing ≡ rating_by (last_plan h)
     -- the stages that stage answers, from 0 until it is refused, are lawful for the present sheet, and no lawful split rates lower
     pub least : IfSome (last_plan h) (λ a. (ss : List Stage) × (length ss ≡ a.stages) × ((i : ℕ) → stage_answer p.standing i ≡ stage_of ss i) × Least (present h) e s ss a.rating)
-    -- of the least splits it is the one that the recurrence finds
-    pub exact : IfSome p.standing (λ t. t.stages ≡ split_of (present h) e s)
+    -- what the planner keeps is a least split, and of all least ones the one that the recurrence finds
+    pub exact : IfSome p.standing (λ t. (t.stages ≡ split_of (present h) e s) × Least (present h) e s t.stages t.rating)
     -- each call was answered rightly, at the sheet before it
     pub answered : AllAnswered h
