@@ -1,5 +1,5 @@
 -- How long the parts of a page are, and that one is put after another.
-use Rattle.std.proofs.Common.{Bool, true, false, ◌==◌, ◌≡◌, ℕ, ◌+◌, ◌*◌, ◌<◌, ◌≤◌, List, [], ◌∷◌, ◌++◌, length, sym, refl, ap, ◌∙◌, subst, arith, decimal, codes, cond}
+use Rattle.std.proofs.Common.{Bool, true, false, ◌==◌, ◌≡◌, ℕ, ◌+◌, ◌*◌, ◌^◌, ◌<◌, ◌≤◌, List, [], ◌∷◌, ◌++◌, length, sym, refl, ap, ◌∙◌, subst, arith, decimal, codes, cond}
 use Rattle.std.specs.Bool.{⊤}
 use Rattle.std.specs.List.{flat_map, AllByRecursion}
 use Rattle.std.proofs.lemmas.Fmt.{length-decimal-le}
@@ -13,7 +13,7 @@ use Rattle.sheet.specs.Nets.{Net}
 use Rattle.split.specs.declared.stages.Stage.{Stage}
 use Rattle.split.specs.Splits.{Kinds}
 use Rattle.pages.specs.Paces.{pace_of}
-use Rattle.pages.specs.Pages.{spaced, letter, stage_line, head_line, page_of, HasPage}
+use Rattle.pages.specs.Pages.{spaced, letter, stage_line, head_line, page_of, most_page, HasPage}
 
 module _ {X : Type 0} (f : X → List ℕ) where
   -- in a list the texts of some elements and of the next one are no longer than the whole
@@ -71,6 +71,18 @@ length_head count pace =
 -- the page is its parts
 pub page_is : (n : Net) (e : Kinds) (ss zs : List Stage) (p : ℕ) → zs ≡ ss → p ≡ pace_of n e zs → head_line (length zs) p ++ flat_map stage_line zs ≡ page_of n e ss
 page_is n e ss zs p same pace = rw (pace, same) refl
+
+-- a page of the stages ss, at most 16, and the pace p, below 2 ^ 32
+pub page_short : (n : Net) (e : Kinds) (ss zs : List Stage) (p : ℕ) → zs ≡ ss → p ≡ pace_of n e zs → length zs ≤ 16 → p < 2 ^ 32 → length (page_of n e ss) ≤ most_page
+page_short n e ss zs p same pace few fits = subst (λ bs. length bs ≤ most_page) (page_is n e ss zs p same pace) (omega (
+  arith,
+  length-append (head_line (length zs) p) (flat_map stage_line zs),
+  length_head (length zs) p,
+  length-decimal-le 2 (length zs) (omega arith) (omega arith) (omega (arith, few)),
+  length-decimal-le 10 p (omega arith) (omega arith) (omega (arith, fits)),
+  lines_short zs,
+  few,
+))
 
 pub has_page : {page old new : List ℕ} {len : ℕ} → Wrote old 0 len page new → HasPage page old new len
 has_page w = record { size = omega (arith, w.ends); bytes = wrote_take w; rest = wrote_drop w }

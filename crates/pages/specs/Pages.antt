@@ -4,6 +4,7 @@
 --   stage_line st           the letter of a stage, and each of its operators ascending, a space before each
 --   head_line count pace    how many stages there are, and their pace
 --   page_of n e ss          the head, and a line for each stage in their order
+--   most_page               the most bytes of a page: 26 of the head, and 194 for each of 16 stages
 --   page_refusal page room  what is told where a page is to go into so many bytes: that they are too few, or nothing
 --   HasPage page old new len    the page, len bytes long, stands at the front of the buffer, and the rest is as it was
 use Rattle.std.specs.Prelude.{◌≡◌, ℕ, cond, List, ◌++◌, length, take, drop, ◌==◌, codes, decimal, nat_le}
@@ -31,6 +32,9 @@ head_line count pace = codes "stages " ++ (decimal count ++ (codes " pace " ++ (
 
 abbrev pub page_of : Net → Kinds → List Stage → List ℕ
 page_of n e ss = head_line (length ss) (pace_of n e ss) ++ flat_map stage_line ss
+
+abbrev pub most_page : ℕ
+most_page = 3130
 
 abbrev pub page_refusal : List ℕ → ℕ → List ℕ
 page_refusal page room = unless (nat_le (length page) room) (told BufferTooShort)

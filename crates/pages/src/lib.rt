@@ -9,4 +9,4 @@ mod tests;
 mod writes;
 
 pub use paces::pace;
-pub use writes::write_page;
+pub use writes::{MOST_PAGE, write_page};

@@ -1,11 +1,11 @@
 // The calls that only read.
-ghost use Rattle.std.specs.Prelude.{◌≡◌, length, IfOk, OnErr, MatchResult};
+ghost use Rattle.std.specs.Prelude.{◌≡◌, ◌≤◌, length, IfOk, OnErr, MatchResult};
 ghost use Rattle.refusals.specs.Told.{outcome};
 ghost use Rattle.sheet_writer.specs.Writes.{Writes, Keeps};
 ghost use Rattle.std.specs.Option.{ForSome};
 ghost use Rattle.split.specs.Splits.{At};
 ghost use Rattle.split.specs.Problems.{net_of, kinds_of};
-ghost use Rattle.pages.specs.Pages.{HasPage};
+ghost use Rattle.pages.specs.Pages.{most_page, HasPage};
 ghost use Rattle.planner.specs.Answers.{rating_answer, stage_answer, place_answer, margin_answer, page_told, page_text};
 
 use super::Planner;
@@ -87,6 +87,7 @@ impl<K: Kind, L: Kind, S: Scale> Planner<K, L, S> {
         ensures refuses { outcome result ≡ page_told (state self.now).net (kinds_in self.now) (state self.now).standing (length buffer.old) }
         ensures answers { IfOk result (HasPage (page_text (state self.now).net (kinds_in self.now) (state self.now).standing) buffer.old buffer.new) }
         ensures keeps { OnErr result (buffer.new ≡ buffer.old) }
+        ensures short { length (page_text (state self.now).net (kinds_in self.now) (state self.now).standing) ≤ most_page }
     {
         let found = self.found()?;
         pages::write_page(&self.problem(), &found.split, buffer)
