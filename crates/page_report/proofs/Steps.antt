@@ -1,29 +1,27 @@
 -- What is told of a load and a plan that are made on a new planner, and what stands then.
-use Rattle.std.proofs.Common.{◌≡◌, ℕ, zero, suc, ◌≤◌, true, List, [], ◌∷◌, length, map, get_or, is_some, Option, None, Some, IfSome, Result, Ok, Err, refl, sym, ap, ◌∙◌, subst, cond, nat_le, arith}
+use Rattle.std.proofs.Common.{◌≡◌, ℕ, true, List, [], ◌∷◌, length, map, get_or, is_some, Option, None, Some, IfSome, Result, Ok, Err, refl, sym, ap, ◌∙◌, subst, arith}
 use Rattle.std.specs.List.{All}
 use Rattle.std.specs.Option.{option_map}
 use Rattle.std.specs.Borrow.{Bor}
 use Rattle.refusals.specs.declared.Refusal.{Refusal}
-use Rattle.refusals.specs.declared.Refusal.TheVariants.{NoLawfulSplit, NoSplit, BufferTooShort}
+use Rattle.refusals.specs.declared.Refusal.TheVariants.{NoLawfulSplit}
 use Rattle.refusals.specs.Told.{told, outcome}
 use Rattle.refusals.proofs.Tellings.{told_something}
-use Rattle.sheet.specs.Nets.{Net, empty}
-use Rattle.sheet.specs.Changes.{changed, first, unless}
+use Rattle.sheet.specs.Nets.{empty}
+use Rattle.sheet.specs.Changes.{changed}
 use Rattle.sheet_layout.specs.Bodies.{file_refusal, net_of}
 use Rattle.scale.specs.Rules.{Rules}
 use Rattle.split.specs.declared.stages.Stage.{Stage}
 use Rattle.split.specs.Splits.{Kinds, Lawful, Least}
 use Rattle.recurrence.specs.Planned.{split_of}
 use Rattle.best_split.specs.Finds.{find_refusal}
-use Rattle.planner.specs.declared.plans.Plan.{Plan}
 use Rattle.planner.specs.declared.calls.Call.{Call}
 use Rattle.planner.specs.declared.calls.Call.TheVariants as calls
 use Rattle.planner.specs.declared.calls.Granted.{Granted}
-use Rattle.planner.specs.declared.calls.Granted.TheVariants.{Planned}
 use Rattle.planner.specs.declared.calls.Step.{Step}
 use Rattle.planner.specs.States.{Standing, State}
 use Rattle.planner.specs.Law.{Event, event, present, rating_after, Holds}
-use Rattle.planner.specs.Runs.{handed, call_of, history}
+use Rattle.planner.specs.Runs.{call_of, history}
 use Rattle.page_report.specs.SplitPages.{told_in, refused_in}
 
 some_standing : {R : Type 0} (o : Option (Standing R)) (z : R) → option_map (λ (t : Standing R). t.rating) o ≡ Some z → (t : Standing R) × (o ≡ Some t)

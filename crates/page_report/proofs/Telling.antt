@@ -1,5 +1,6 @@
 -- What is told of a file and of the plan of its sheet, by what is told of the two steps.
-use Rattle.std.proofs.Common.{◌≡◌, ℕ, ◌≤◌, true, List, [], ◌∷◌, ◌++◌, length, codes, decimal, slice_index, is_some, Option, None, Some, refl, sym, ap, ◌∙◌, subst, cond, nat_le, arith, le-leb}
+use Rattle.std.proofs.Common.{◌≡◌, ℕ, ◌≤◌, true, List, [], ◌∷◌, ◌++◌, length, codes, decimal, slice_index, is_some, Option, refl, ap, ◌∙◌, subst, nat_le, arith, le-leb}
+use Rattle.std.proofs.lemmas.List.{length-take}
 use Rattle.std.specs.Borrow.{Bor}
 use Rattle.refusals.specs.declared.Refusal.{Refusal}
 use Rattle.refusals.specs.declared.Refusal.TheVariants.{NoSplit, BufferTooShort}
@@ -7,14 +8,14 @@ use Rattle.refusals.specs.Told.{told}
 use Rattle.refusals.proofs.Tellings.{something, told_something}
 use Rattle.sheet.specs.Nets.{Net}
 use Rattle.sheet.specs.Changes.{first, unless}
-use Rattle.sheet_layout.specs.Bodies.{file_refusal, net_of}
+use Rattle.sheet_layout.specs.Bodies.{net_of}
 use Rattle.sheet_layout.specs.Laws.{LawsStand}
 use Rattle.scale.specs.Scales.{peak}
 use Rattle.split.specs.Splits.{Kinds, Least}
-use Rattle.pages.specs.Pages.{most_page, page_of}
+use Rattle.pages.specs.Pages.{most_page, HasPage}
 use Rattle.planner.specs.States.{Standing, State}
 use Rattle.planner.specs.Answers.{page_text, page_told}
-use Rattle.page_report.specs.SplitPages.{devices, planning, found, split_refusal, split_text, unless_refused, Means}
+use Rattle.page_report.specs.SplitPages.{devices, planning, split_refusal, split_text, unless_refused, Means}
 use Rattle.page_report.proofs.Steps.{Ran}
 
 -- two checks
@@ -67,3 +68,7 @@ line_of (t ∷ ts) text number some is spelt = rw (spelt, is) refl
 
 pub refused_line : (x : Refusal) (number : ℕ) (text : List ℕ) → number ≡ slice_index (told x) 0 → text ≡ decimal number → codes "refused " ++ (text ++ codes "\n") ≡ unless_refused (told x) []
 refused_line x number text is spelt = line_of (told x) text number (told_something x) is spelt
+
+-- a page that stands in a buffer is no longer than the buffer
+pub within : {page old new : List ℕ} {len : ℕ} → HasPage page old new len → len ≤ length new
+within {page} {old} {new} {len} h = omega (arith, h.size, ap length h.bytes, length-take len new)

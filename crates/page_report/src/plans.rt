@@ -12,7 +12,9 @@ use refusals::Refusal;
 use scale::Peak;
 
 const LIMIT: u32 = 1_000_000;
+
 const IDEALS: usize = 512;
+
 const CELLS: usize = 4_096;
 
 // Whether a step was granted.

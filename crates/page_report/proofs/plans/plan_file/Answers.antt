@@ -1,5 +1,5 @@
-use Rattle.std.proofs.Common.{◌≡◌, ℕ, List, [], ◌∷◌, length, slice_index_or, None, IfOk, Ok, refl, sym, ap, ◌∙◌, subst, rules}
-use Rattle.refusals.specs.Told.{told, outcome}
+use Rattle.std.proofs.Common.{◌≡◌, ℕ, [], slice_index_or, None, refl, sym, ap, ◌∙◌, subst, rules}
+use Rattle.refusals.specs.Told.{outcome}
 use Rattle.refusals.proofs.Tellings.{told_something}
 use Rattle.device.specs.declared.accelerators.Accelerator.{Accelerator}
 use Rattle.device.specs.Loads.{accelerated, processed}
@@ -8,10 +8,10 @@ use Rattle.split.specs.Splits.{kinds}
 use Rattle.sheet.specs.Changes.{first}
 use Rattle.planner.specs.declared.calls.Step.{Step}
 use Rattle.planner.specs.declared.calls.Call.TheVariants as calls
-use Rattle.planner.specs.Views.{state, kinds_in, rules_in}
+use Rattle.planner.specs.Views.{state, kinds_in}
 use Rattle.planner.specs.Runs.{history}
 use Rattle.planner.specs.Law.{Holds}
-use Rattle.page_report.specs.SplitPages.{devices, refused_in, split_refusal}
+use Rattle.page_report.specs.SplitPages.{devices, refused_in}
 use Rattle.page_report.proofs.Steps.{Ran, ran}
 use Rattle.page_report.proofs.Telling.{told_split, first_stays, means, stands, text}
 use Rattle.page_report.proofs.plans.plan_file.Goals as goal

@@ -1,9 +1,7 @@
-use Rattle.std.proofs.Common.{◌≡◌, ℕ, List, [], ◌∷◌, ◌++◌, codes, decimal, ap, subst, rules}
+use Rattle.std.proofs.Common.{ℕ, List, codes, subst, rules}
 use Rattle.byte_fields.specs.Wrote.{Wrote}
 use Rattle.byte_fields.proofs.Wrote.{wrote_then}
-use Rattle.refusals.specs.Told.{told}
 use Rattle.pages.proofs.Parts.{has_page}
-use Rattle.page_report.specs.SplitPages.{unless_refused}
 use Rattle.page_report.proofs.Telling.{refused_line}
 use Rattle.page_report.proofs.refused.put_refusal.Goals as goal
 

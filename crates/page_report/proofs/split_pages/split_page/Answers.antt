@@ -1,10 +1,8 @@
-use Rattle.std.proofs.Common.{◌≡◌, length, List, [], refl, ap, ◌∙◌, subst, rules}
-use Rattle.std.specs.Result.{IsOk}
+use Rattle.std.proofs.Common.{◌≡◌, length, [], ◌∙◌, rules}
 use Rattle.refusals.specs.Told.{outcome}
 use Rattle.refusals.proofs.Tellings.{nothing_ok}
-use Rattle.pages.specs.Pages.{most_page, HasPage}
+use Rattle.pages.specs.Pages.{most_page}
 use Rattle.planner.specs.Views.{state, kinds_in}
-use Rattle.page_report.specs.SplitPages.{unless_refused, split_text, page_or_refusal}
 use Rattle.page_report.proofs.Telling.{page_fits}
 use Rattle.page_report.proofs.split_pages.split_page.Goals as goal
 
