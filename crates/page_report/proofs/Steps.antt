@@ -1,7 +1,6 @@
 -- What is told of a load and a plan that are made on a new planner, and what stands then.
 use Rattle.std.proofs.Common.{◌≡◌, ℕ, true, List, [], ◌∷◌, length, map, get_or, is_some, Option, None, Some, IfSome, Result, Ok, Err, refl, sym, ap, ◌∙◌, subst, arith}
 use Rattle.std.specs.List.{All}
-use Rattle.std.specs.Option.{option_map}
 use Rattle.std.specs.Borrow.{Bor}
 use Rattle.refusals.specs.declared.Refusal.{Refusal}
 use Rattle.refusals.specs.declared.Refusal.TheVariants.{NoLawfulSplit}
@@ -20,11 +19,12 @@ use Rattle.planner.specs.declared.calls.Call.TheVariants as calls
 use Rattle.planner.specs.declared.calls.Granted.{Granted}
 use Rattle.planner.specs.declared.calls.Step.{Step}
 use Rattle.planner.specs.States.{Standing, State}
-use Rattle.planner.specs.Law.{Event, event, present, rating_after, Holds}
+use Rattle.planner.specs.Law.{Event, event, present, plan_after, rating_by, Holds}
+use Rattle.planner.specs.Answers.{rating_answer}
 use Rattle.planner.specs.Runs.{call_of, history}
 use Rattle.page_report.specs.SplitPages.{told_in, refused_in}
 
-some_standing : {R : Type 0} (o : Option (Standing R)) (z : R) → option_map (λ (t : Standing R). t.rating) o ≡ Some z → (t : Standing R) × (o ≡ Some t)
+some_standing : {R : Type 0} (o : Option (Standing R)) (z : R) → rating_answer o ≡ Ok z → (t : Standing R) × (o ≡ Some t)
 some_standing None z h = absurd (cc)
 some_standing (Some t) z h = (t, refl)
 
@@ -52,12 +52,13 @@ module _ {K L S R : Type 0} (e : Kinds) (s : Rules R) (f : Bor (List ℕ)) (p : 
   stood r (Err x) held a b = absurd (told_something x b)
   stood r (Ok g) held a b =
       let plan = held.answered.0.answers in
-      let there = some_standing p.standing plan.0.rating (held.stands ∙ ap (λ (x : Granted R). rating_after (rating_after None r) (Ok x)) plan.1) in
-      let t = there.0 in (
+      let there = some_standing p.standing plan.0.rating (held.stands ∙ ap (λ (x : Granted R). rating_by (plan_after (plan_after None r) (Ok x))) plan.1) in
+      let t = there.0 in
+      let kept = subst (λ (o : Option (Standing R)). IfSome o (λ u. (u.stages ≡ split_of (present (both r (Ok g))) e s) × Least (present (both r (Ok g))) e s u.stages u.rating)) there.1 held.exact in (
         t,
         there.1,
-        subst (λ n. t.stages ≡ split_of n e s) (now r (Ok g) a b) (subst (λ (o : Option (Standing R)). IfSome o (λ u. u.stages ≡ split_of (present (both r (Ok g))) e s)) there.1 held.exact),
-        subst (λ n. Least n e s t.stages t.rating) (now r (Ok g) a b) (subst (λ (o : Option (Standing R)). IfSome o (λ u. Least (present (both r (Ok g))) e s u.stages u.rating)) there.1 held.least),
+        subst (λ n. t.stages ≡ split_of n e s) (now r (Ok g) a b) kept.0,
+        subst (λ n. Least n e s t.stages t.rating) (now r (Ok g) a b) kept.1,
       )
 
   ran_both : (r q : Result (Granted R) Refusal) → Holds e s (both r q) p → Ran (outcome r) (outcome q)
