@@ -20,10 +20,12 @@ module _ (m : ℕ) (some : 0 < m) (small : m < 2 ^ 64) where
       let same : at.0 ≡ top = omega (arith, at.1) in
       let bit : (1 * 2 ^ top) % 2 ^ 64 ≡ 2 ^ top = one_shl top 64 near in
       let le : (1 * 2 ^ top) % 2 ^ 64 ≤ m = omega (arith, bit, at.2, ap (λ (j : ℕ). 2 ^ j) same) in
-      let lt : m - (1 * 2 ^ top) % 2 ^ 64 < 2 ^ top = omega (arith, bit, at.3, ap (λ (j : ℕ). 2 ^ suc j) same, pow-suc 2 top) in
-      (le, record {
-        few = near;
-        above = λ u h. in_below top (m - (1 * 2 ^ top) % 2 ^ 64) u lt h;
-        whole = or_above (m - (1 * 2 ^ top) % 2 ^ 64) top lt ∙ omega (arith, bit);
-        fewer = omega (arith, bit, some, pow_pos top);
-      })
+      let lt : m - (1 * 2 ^ top) % 2 ^ 64 < 2 ^ top = omega (arith, bit, at.3, ap (λ (j : ℕ). 2 ^ suc j) same, pow-suc 2 top) in (
+        le,
+        record {
+          few = near;
+          above = λ u h. in_below top (m - (1 * 2 ^ top) % 2 ^ 64) u lt h;
+          whole = or_above (m - (1 * 2 ^ top) % 2 ^ 64) top lt ∙ omega (arith, bit);
+          fewer = omega (arith, bit, some, pow_pos top);
+        },
+      )

@@ -1,14 +1,10 @@
 -- How a set is taken apart from its lowest operator up, and put together again from the highest of those down.
 use Rattle.std.proofs.Common.{◌≡◌, ℕ, ◌^◌, ◌<◌, Bool, not, ◌&&◌, ◌||◌, eqb, sym, ap, ◌∙◌, arith}
-use Rattle.std.proofs.lemmas.Bool.{both_ways}
 use Rattle.std.proofs.lemmas.Bool.Decides.{nat_tests}
 use Rattle.sets.specs.Sets.{has, In, including, without}
 use Rattle.sets.proofs.Sets.{has_including, has_difference, has_none, same_sets}
 use Rattle.stage_memo.specs.Ends.{IsLowest, IsHighest}
 use Rattle.stage_memo.specs.Parts.{Tail}
-
-pub tail_whole : (m : ℕ) → Tail m m
-tail_whole m = record { inside = λ u h. h; below = λ u w h out k. absurd (both_ways (has m u) out h) }
 
 -- ---- from the lowest up
 
@@ -21,10 +17,6 @@ module _ (m s v rest : ℕ) (low : IsLowest s v rest) (tail : Tail m s) where
     inside = λ u h. tail.inside u (grind (arith, split u, h));
     below = λ u w h out k. grind (arith, nat_tests, split u, split w, h, out, k, tail.below u w, low.below w);
   }
-
--- nothing is left of the set
-pub tail_none : (m s : ℕ) → s ≡ 0 → Tail m 0
-tail_none m s e = record { inside = λ u h. absurd (both_ways (has 0 u) (has_none u) h); below = λ u w h out k. absurd (both_ways (has 0 w) (has_none w) k) }
 
 -- ---- from the highest down
 

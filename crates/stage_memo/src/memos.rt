@@ -111,7 +111,7 @@ impl<'a> StageMemo<'a> {
     }
 
     // Comes to know a set: adds the operators that its known part lacks, each below all before.
-    // Kept out of the loops over pairs of sets, where mostly a set is known.
+    // Out of line, since it would take registers from the loops that ask for figures.
     #[inline(never)]
     fn settle(&mut self, mask: u64) -> Known
         ensures mask { result.figures.mask ≡ mask }
