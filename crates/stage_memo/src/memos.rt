@@ -67,6 +67,7 @@ impl<'a> StageMemo<'a> {
     {
         let old = above.figures;
         let row = self.row(v);
+        // read before the two tests, so that the compiler chooses by their answers without a jump
         let link = row.link;
         let mask = sets::include(old.mask, v);
         let predecessors = self.predecessors[v];
