@@ -112,8 +112,6 @@ impl<'a> StageMemo<'a> {
     }
 
     // Comes to know a set: adds the operators that its known part lacks, each below all before.
-    // Out of line, since it would take registers from the loops that ask for figures.
-    #[inline(never)]
     fn settle(&mut self, mask: u64) -> Known
         ensures mask { result.figures.mask ≡ mask }
         ensures right { Right (memo_net self.old) result }
@@ -130,6 +128,8 @@ impl<'a> StageMemo<'a> {
     }
 
     // What is known of a set, which it comes to know if it is not.
+    // Out of line, since it would take registers from the loops that ask for figures.
+    #[inline(never)]
     fn reach(&mut self, mask: u64) -> Known
         ensures mask { result.figures.mask ≡ mask }
         ensures right { Right (memo_net self.old) result }
