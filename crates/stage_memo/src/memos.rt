@@ -101,6 +101,7 @@ impl<'a> StageMemo<'a> {
         ensures right { Right (memo_net self.now) result }
     {
         let mut rest = mask;
+        // a loop: a recursion that stood for it and for the loop of `settle` was slower
         while let Some((v, others)) = split_lowest(rest) {
             let entry = self.known[v];
             if entry.figures.mask == rest {
@@ -112,6 +113,8 @@ impl<'a> StageMemo<'a> {
     }
 
     // Comes to know a set: adds the operators that its known part lacks, each below all before.
+    // Out of line: it is seldom needed, and would take registers from the loops that ask for figures.
+    #[inline(never)]
     fn settle(&mut self, mask: u64) -> Known
         ensures mask { result.figures.mask ≡ mask }
         ensures right { Right (memo_net self.old) result }
@@ -119,6 +122,7 @@ impl<'a> StageMemo<'a> {
     {
         let mut known = self.part(mask);
         let mut left = sets::difference(mask, known.figures.mask);
+        // a loop, for the same reason as in `part`
         while let Some((v, others)) = split_highest(left) {
             known = self.with_below(known, v);
             self.known[v] = known;
@@ -128,8 +132,6 @@ impl<'a> StageMemo<'a> {
     }
 
     // What is known of a set, which it comes to know if it is not.
-    // Out of line, since it would take registers from the loops that ask for figures.
-    #[inline(never)]
     fn reach(&mut self, mask: u64) -> Known
         ensures mask { result.figures.mask ≡ mask }
         ensures right { Right (memo_net self.old) result }
@@ -146,10 +148,21 @@ impl<'a> StageMemo<'a> {
     }
 
     // The figures of a set of operators as a stage. Bits that stand for no operator add nothing.
+    // Of a set that is not known, the others beside its lowest operator mostly are.
     pub fn figures(&mut self, mask: u64) -> StageFigures
         ensures value { sums result ≡ figures_of (memo_net self.old) mask }
         ensures keeps { memo_net self.new ≡ memo_net self.old }
     {
-        self.reach(mask).figures
+        let Some((v, others)) = split_lowest(mask) else {
+            return Known::of_none().figures;
+        };
+        let entry = self.known[v];
+        if entry.figures.mask == mask {
+            return entry.figures;
+        }
+        let above = self.reach(others);
+        let known = self.with_below(above, v);
+        self.known[v] = known;
+        known.figures
     }
 }
