@@ -13,8 +13,10 @@ use sheet::Counts;
 // How the rows of the cells lie, by the counts of devices, and how they are rated.
 #[derive(Drop)]
 pub struct Rows<'a, S> {
-    pub scale: &'a S,
-    pub counts: Counts,
+    scale: &'a S,
+    counts: Counts,
+    width: usize,
+    ghost wide: { width ≡ width_of counts.k counts.l },
 }
 
 // Where a stage leads on in a row: from `cells` cells at the beginning of each of the first `count` lines, each to the cell `step` further.
@@ -33,6 +35,17 @@ fn ends_within(at: usize, width: usize, cells: usize) -> bool
 }
 
 impl<'a, S: Scale> Rows<'a, S> {
+    pub fn new(scale: &'a S, counts: Counts) -> Rows<'a, S>
+        ensures scale { result.scale.now ≡ scale.now }
+        ensures counts { result.counts ≡ counts }
+    {
+        Rows {
+            scale,
+            counts,
+            width: (usize::from(counts.k) + 1) * (usize::from(counts.l) + 1),
+        }
+    }
+
     // How many cells a line has.
     fn line(&self) -> usize
         ensures { result ≡ self.now.counts.l + 1 }
@@ -44,7 +57,7 @@ impl<'a, S: Scale> Rows<'a, S> {
     pub fn width(&self) -> usize
         ensures { result ≡ width_of self.now.counts.k self.now.counts.l }
     {
-        (usize::from(self.counts.k) + 1) * self.line()
+        self.width
     }
 
     // The runs of a kind: one with which each line leads to the next, or one in each line, in which each cell leads to the next.

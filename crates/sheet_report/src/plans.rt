@@ -34,10 +34,7 @@ fn find_least<K: Kind, L: Kind, S: Scale>(
     requires { Counted (net_of problem.now) ideals }
     ensures { IfOk result (FindsLeast (net_of problem.now) (kinds_of K.meaning L.meaning problem.now) (S.rules scale.now)) }
 {
-    let rows = Rows {
-        scale,
-        counts: problem.sheet.counts(),
-    };
+    let rows = Rows::new(scale, problem.sheet.counts());
     let cells = ideals * rows.width();
     let mut masks = vec![in heap; 0; ideals]?;
     let mut ratings = vec![in heap; scale.start(); cells]?;

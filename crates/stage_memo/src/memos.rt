@@ -1,5 +1,6 @@
-ghost use Rattle.std.specs.Prelude.{◌≡◌, ℕ, ◌<◌, ◌≤◌, length, slice_index, sum_by};
+ghost use Rattle.std.specs.Prelude.{◌≡◌, ℕ, ◌<◌, ◌≤◌, length, slice_index, slice_index_or, sum_by};
 ghost use Rattle.std.specs.List.{All};
+ghost use Rattle.std.specs.Option.{ForSome};
 ghost use Rattle.sets.specs.Sets.{In, including, members};
 ghost use Rattle.sheet.specs.Rules.{most_sum};
 ghost use Rattle.sheet.specs.Nets.{before};
@@ -113,8 +114,6 @@ impl<'a> StageMemo<'a> {
     }
 
     // Comes to know a set: adds the operators that its known part lacks, each below all before.
-    // Out of line: it is seldom needed, and would take registers from the loops that ask for figures.
-    #[inline(never)]
     fn settle(&mut self, mask: u64) -> Known
         ensures mask { result.figures.mask ≡ mask }
         ensures right { Right (memo_net self.old) result }
@@ -131,20 +130,26 @@ impl<'a> StageMemo<'a> {
         known
     }
 
-    // What is known of a set, which it comes to know if it is not.
-    fn reach(&mut self, mask: u64) -> Known
-        ensures mask { result.figures.mask ≡ mask }
-        ensures right { Right (memo_net self.old) result }
+    // What is known of a set, if it is known and has an operator.
+    fn entry(&self, mask: u64) -> Option<Known>
+        ensures { ForSome result (λ known. (known.figures.mask ≡ mask) × Right (memo_net self.now) known) }
+    {
+        let (v, _) = split_lowest(mask)?;
+        let known = self.known[v];
+        (known.figures.mask == mask).then_some(known)
+    }
+
+    // Comes to know a set by the others beside its lowest operator.
+    // Out of line: it is seldom needed, and would take registers from the loops that ask for figures.
+    #[inline(never)]
+    fn learn(&mut self, others: u64, v: usize)
+        requires place { v < 64 }
+        requires below { (u : ℕ) → In u others → v < u }
+        ensures mask { (d : Known) → (slice_index_or self.new.known v d).figures.mask ≡ including others v }
         ensures keeps { memo_net self.new ≡ memo_net self.old }
     {
-        let Some((v, _)) = split_lowest(mask) else {
-            return Known::of_none();
-        };
-        let entry = self.known[v];
-        if entry.figures.mask == mask {
-            return entry;
-        }
-        self.settle(mask)
+        let above = self.settle(others);
+        self.known[v] = self.with_below(above, v);
     }
 
     // The figures of a set of operators as a stage. Bits that stand for no operator add nothing.
@@ -156,13 +161,12 @@ impl<'a> StageMemo<'a> {
         let Some((v, others)) = split_lowest(mask) else {
             return Known::of_none().figures;
         };
-        let entry = self.known[v];
-        if entry.figures.mask == mask {
-            return entry.figures;
+        if self.known[v].figures.mask != mask {
+            match self.entry(others) {
+                Some(above) => self.known[v] = self.with_below(above, v),
+                None => self.learn(others, v),
+            }
         }
-        let above = self.reach(others);
-        let known = self.with_below(above, v);
-        self.known[v] = known;
-        known.figures
+        self.known[v].figures
     }
 }

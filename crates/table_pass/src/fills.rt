@@ -30,10 +30,7 @@ pub fn fill<'a, K: Kind, L: Kind, S: Scale>(
     if ideals.len() > MOST_IDEALS {
         return Err(Refusal::TooManyIdeals);
     }
-    let rows = Rows {
-        scale,
-        counts: problem.sheet.counts(),
-    };
+    let rows = Rows::new(scale, problem.sheet.counts());
     let cells = ideals.len() * rows.width();
     if ratings.len() < cells || choices.len() < cells {
         return Err(Refusal::TooFewCells);
