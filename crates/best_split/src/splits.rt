@@ -3,6 +3,7 @@ ghost use Rattle.std.specs.Prelude.{◌≡◌, ◌≤◌, length};
 use split::Stage;
 
 // Up to sixteen stages, in fixed memory. They stand at its end, since they are read back from the last one on.
+#[repr(C)]
 #[derive(Clone, Copy)]
 pub struct Split {
     pub(crate) stages: [Stage; 16],

@@ -13,6 +13,7 @@ use sheet::StageFigures;
 pub const MOST_LIMIT: u32 = 1_000_000_000;
 
 // An accelerator with memory for stages up to a size.
+#[repr(C)]
 #[derive(Clone, Copy, PartialEq, Eq, Debug)]
 pub struct Accelerator {
     limit: u32,

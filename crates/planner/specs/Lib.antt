@@ -4,3 +4,4 @@ pub mod Plans
 pub mod Answers
 pub mod Law
 pub mod Runs
+pub mod Kept

@@ -3,6 +3,7 @@
 
 mod calls;
 mod edits;
+mod kept;
 mod makes;
 mod planners;
 mod plans;
@@ -10,6 +11,7 @@ mod reads;
 mod runs;
 
 pub use calls::{Call, Granted, Step};
+pub use kept::Kept;
 pub use planners::Planner;
 pub use plans::Plan;
 pub use runs::run;

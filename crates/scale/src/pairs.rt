@@ -10,6 +10,7 @@ use device::Load;
 use std::fmt;
 
 // The ticks and the link of a stage, compared by ticks and on equal ticks by link.
+#[repr(C)]
 #[derive(Clone, Copy, PartialEq, Eq, PartialOrd, Ord, Default, Debug)]
 pub struct PairRating {
     pub ticks: u32,

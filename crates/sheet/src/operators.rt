@@ -1,4 +1,5 @@
 // The figures of an operator: ticks on an accelerator, ticks on a processor, memory in KiB, and ticks to move its output.
+#[repr(C)]
 #[derive(Drop, PartialEq, Eq, Debug)]
 pub struct Operator {
     pub acc: u32,

@@ -6,6 +6,8 @@ use super::edits::MOST_OPERATORS;
 use super::{Counts, Node};
 
 // The operators stand in fixed memory, since nothing here allocates; the nodes beyond them say nothing.
+// It is laid out as C does, with all that it holds, since a program in C may keep it (planner's `Kept`).
+#[repr(C)]
 #[derive(Drop)]
 pub struct Sheet {
     pub(crate) operators: usize,

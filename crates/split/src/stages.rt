@@ -1,5 +1,6 @@
 // A stage: a set of operators, and the kind of device that it is given, 1 or 2.
 // The kind is a number and no `WhichKind`, since the judge takes stages from anyone and answers those of no kind too.
+#[repr(C)]
 #[derive(Clone, Copy, PartialEq, Eq, Debug)]
 pub struct Stage {
     pub mask: u64,
