@@ -1,0 +1,91 @@
+-- What a call does and answers: p is the planner before it, p' after it, a what the caller reads.
+--   kinds_at p        what the accelerator and the processor of a planner answer
+--   limit_refusal M   why no accelerator has the limit M
+--   Edits             a call that changes the sheet to n where it is granted, which it is if nothing is told
+--   Makes s M         the planner is new, on the scale s, with an accelerator of the limit M
+--   Adds o, Joins u v, Retimes v o, Counts k l, Loads f, Clears    the sheet changes so
+--   Stages i, Places v, Margins pick    what is read of the split that stands
+--   Pages b b', Writes b b'             what is written into a buffer, b being its bytes before and b' after
+use Rattle.std.specs.Prelude.{◌≡◌, ◌≢◌, ℕ, List, [], length, Result, MatchResult, nat_le}
+use Rattle.refusals.specs.declared.Refusal.{Refusal}
+use Rattle.refusals.specs.declared.Refusal.TheVariants.{AboveLimit}
+use Rattle.refusals.specs.Told.{told}
+use Rattle.sheet.specs.declared.operators.Operator.{Operator}
+use Rattle.sheet.specs.Nets.{Net, size, empty}
+use Rattle.sheet.specs.Changes.{unless, changed, add_refusal, added, join_refusal, joined, retime_refusal, retimed, count_refusal, counted}
+use Rattle.sheet_layout.specs.Bodies.{file_refusal, net_of}
+use Rattle.sheet_layout.specs.Layout.{LaidOut}
+use Rattle.sheet_writer.specs.Writes as writer
+use Rattle.device.specs.declared.accelerators.Accelerator.{Accelerator}
+use Rattle.device.specs.declared.processors.Processor.{Processor}
+use Rattle.device.specs.Limits.{most_limit}
+use Rattle.device.specs.Loads.{accelerated, processed}
+use Rattle.split.specs.Splits.{Kinds, kinds}
+use Rattle.pages.specs.Pages.{HasPage}
+use Rattle.planner.specs.States.{State, fresh, edited}
+use Rattle.planner.specs.Answers.{stage_answer, place_answer, margin_answer, page_told, page_text}
+use Rattle.controller.specs.declared.answers.RefusalRecord.{RefusalRecord}
+use Rattle.controller.specs.declared.answers.NumberRecord.{NumberRecord}
+use Rattle.controller.specs.declared.answers.StageRecord.{StageRecord}
+use Rattle.controller.specs.declared.answers.MarginRecord.{MarginRecord}
+use Rattle.controller.specs.Told.{refusal_told, number_told, number_of, stage_of, margin_of}
+
+abbrev pub limit_refusal : ℕ → List ℕ
+limit_refusal M = unless (nat_le M most_limit) (told AboveLimit)
+
+module _ {S R : Type 0} where
+  abbrev pub kinds_at : State Accelerator Processor S R → Kinds
+  kinds_at p = kinds (accelerated p.first.limit) processed
+
+  module _ (p p' : State Accelerator Processor S R) where
+    -- ---- the calls that change a planner
+
+    pub record Makes (s : S) (M : ℕ) (a : RefusalRecord) : Type 0 where
+      pub told : a ≡ refusal_told (limit_refusal M)
+      pub made : limit_refusal M ≡ [] → (p' ≡ fresh p'.first p'.second s) × (p'.first.limit ≡ M)
+      pub kept : limit_refusal M ≢ [] → p' ≡ p
+
+    abbrev pub Edits : List ℕ → Net → RefusalRecord → Type 0
+    Edits refusal n a = (a ≡ refusal_told refusal) × (p' ≡ changed refusal p (edited n p))
+
+    abbrev pub Adds : Operator → NumberRecord → Type 0
+    Adds o a = (a ≡ number_told (add_refusal p.net o) (size p.net)) × (p' ≡ changed (add_refusal p.net o) p (edited (added p.net o) p))
+
+    abbrev pub Joins : ℕ → ℕ → RefusalRecord → Type 0
+    Joins u v a = Edits (join_refusal p.net u v) (joined p.net u v) a
+
+    abbrev pub Retimes : ℕ → Operator → RefusalRecord → Type 0
+    Retimes v o a = Edits (retime_refusal p.net v o) (retimed p.net v o) a
+
+    abbrev pub Counts : ℕ → ℕ → RefusalRecord → Type 0
+    Counts k l a = Edits (count_refusal k l) (counted p.net k l) a
+
+    abbrev pub Loads : List ℕ → RefusalRecord → Type 0
+    Loads f a = Edits (file_refusal f) (net_of f) a × (file_refusal f ≡ [] → LaidOut f p'.net)
+
+    abbrev pub Clears : Type 0
+    Clears = p' ≡ edited empty p
+
+    -- ---- the calls that only read
+
+    abbrev pub Stages : ℕ → StageRecord → Type 0
+    Stages i a = (a ≡ stage_of (stage_answer p.standing i)) × (p' ≡ p)
+
+    abbrev pub Places : ℕ → NumberRecord → Type 0
+    Places v a = (a ≡ number_of (place_answer p.net p.standing v)) × (p' ≡ p)
+
+    abbrev pub Margins : ℕ → MarginRecord → Type 0
+    Margins pick a = (a ≡ margin_of (margin_answer p.net (kinds_at p) p.standing pick)) × (p' ≡ p)
+
+    -- the page of the split that stands
+    abbrev pub text : List ℕ
+    text = page_text p.net (kinds_at p) p.standing
+
+    pub record Pages (b b' : List ℕ) (a : NumberRecord) : Type 0 where
+      pub told : a ≡ number_told (page_told p.net (kinds_at p) p.standing (length b)) (length text)
+      pub written : page_told p.net (kinds_at p) p.standing (length b) ≡ [] → HasPage text b b' (length text)
+      pub kept : page_told p.net (kinds_at p) p.standing (length b) ≢ [] → b' ≡ b
+      pub same : p' ≡ p
+
+    abbrev pub Writes : List ℕ → List ℕ → NumberRecord → Type 0
+    Writes b b' a = (r : Result ℕ Refusal) × MatchResult r (writer.Writes p.net b b') (writer.Keeps p.net b b') × (a ≡ number_of r) × (p' ≡ p)

@@ -1,0 +1,159 @@
+// The calls on each scale alike: the planner is taken out of its memory, called, and put back.
+ghost use Rattle.planner.specs.Kept.{kept};
+ghost use Rattle.controller.specs.Calls.{Adds, Joins, Retimes, Counts, Loads, Clears, Stages, Places, Margins, Pages, Writes};
+
+use super::{MarginRecord, NumberRecord, RefusalRecord, StageRecord};
+use planner::Kept;
+use scale::Scale;
+use sheet::Operator;
+
+pub(crate) fn add<S: Scale + Drop>(
+    memory: &mut Kept,
+    scale: S,
+    rating: &mut S::Rating,
+    operator: Operator,
+) -> NumberRecord
+    ensures { Adds (kept scale rating.old memory.old) (kept scale rating.new memory.new) operator result }
+{
+    let mut planner = memory.take(scale, *rating);
+    let answer = planner.add(operator);
+    memory.put(planner, rating);
+    NumberRecord::of(answer)
+}
+
+pub(crate) fn join<S: Scale + Drop>(
+    memory: &mut Kept,
+    scale: S,
+    rating: &mut S::Rating,
+    from: usize,
+    to: usize,
+) -> RefusalRecord
+    ensures { Joins (kept scale rating.old memory.old) (kept scale rating.new memory.new) from to result }
+{
+    let mut planner = memory.take(scale, *rating);
+    let answer = planner.join(from, to);
+    memory.put(planner, rating);
+    RefusalRecord::of_change(answer)
+}
+
+pub(crate) fn retime<S: Scale + Drop>(
+    memory: &mut Kept,
+    scale: S,
+    rating: &mut S::Rating,
+    v: usize,
+    figures: &Operator,
+) -> RefusalRecord
+    ensures { Retimes (kept scale rating.old memory.old) (kept scale rating.new memory.new) v figures.now result }
+{
+    let mut planner = memory.take(scale, *rating);
+    let answer = planner.retime(v, figures);
+    memory.put(planner, rating);
+    RefusalRecord::of_change(answer)
+}
+
+pub(crate) fn count<S: Scale + Drop>(
+    memory: &mut Kept,
+    scale: S,
+    rating: &mut S::Rating,
+    k: u8,
+    l: u8,
+) -> RefusalRecord
+    ensures { Counts (kept scale rating.old memory.old) (kept scale rating.new memory.new) k l result }
+{
+    let mut planner = memory.take(scale, *rating);
+    let answer = planner.count(k, l);
+    memory.put(planner, rating);
+    RefusalRecord::of_change(answer)
+}
+
+pub(crate) fn load<S: Scale + Drop>(
+    memory: &mut Kept,
+    scale: S,
+    rating: &mut S::Rating,
+    file: &[u8],
+) -> RefusalRecord
+    ensures { Loads (kept scale rating.old memory.old) (kept scale rating.new memory.new) file.now result }
+{
+    let mut planner = memory.take(scale, *rating);
+    let answer = planner.load(file);
+    memory.put(planner, rating);
+    RefusalRecord::of_change(answer)
+}
+
+pub(crate) fn clear<S: Scale + Drop>(memory: &mut Kept, scale: S, rating: &mut S::Rating)
+    ensures { Clears (kept scale rating.old memory.old) (kept scale rating.new memory.new) }
+{
+    let mut planner = memory.take(scale, *rating);
+    planner.clear();
+    memory.put(planner, rating);
+}
+
+pub(crate) fn stage<S: Scale + Drop>(
+    memory: &mut Kept,
+    scale: S,
+    rating: &mut S::Rating,
+    i: usize,
+) -> StageRecord
+    ensures { Stages (kept scale rating.old memory.old) (kept scale rating.new memory.new) i result }
+{
+    let planner = memory.take(scale, *rating);
+    let answer = planner.stage(i);
+    memory.put(planner, rating);
+    StageRecord::of(answer)
+}
+
+pub(crate) fn place<S: Scale + Drop>(
+    memory: &mut Kept,
+    scale: S,
+    rating: &mut S::Rating,
+    v: usize,
+) -> NumberRecord
+    ensures { Places (kept scale rating.old memory.old) (kept scale rating.new memory.new) v result }
+{
+    let planner = memory.take(scale, *rating);
+    let answer = planner.place(v);
+    memory.put(planner, rating);
+    NumberRecord::of(answer)
+}
+
+pub(crate) fn margin<S: Scale + Drop>(
+    memory: &mut Kept,
+    scale: S,
+    rating: &mut S::Rating,
+    pick: u32,
+) -> MarginRecord
+    ensures { Margins (kept scale rating.old memory.old) (kept scale rating.new memory.new) pick result }
+{
+    let planner = memory.take(scale, *rating);
+    let answer = planner.margin(pick);
+    memory.put(planner, rating);
+    MarginRecord::of(answer)
+}
+
+pub(crate) fn page<S: Scale + Drop>(
+    memory: &mut Kept,
+    scale: S,
+    rating: &mut S::Rating,
+    buffer: &mut [u8],
+) -> NumberRecord
+    ensures { Pages (kept scale rating.old memory.old) (kept scale rating.new memory.new) buffer.old buffer.new result }
+{
+    let planner = memory.take(scale, *rating);
+    let answer = planner.page(buffer);
+    memory.put(planner, rating);
+    NumberRecord::of(answer)
+}
+
+pub(crate) fn write<S: Scale + Drop>(
+    memory: &mut Kept,
+    scale: S,
+    rating: &mut S::Rating,
+    buffer: &mut [u8],
+) -> NumberRecord
+    ensures { Writes (kept scale rating.old memory.old) (kept scale rating.new memory.new) buffer.old buffer.new result }
+{
+    let planner = memory.take(scale, *rating);
+    let answer = planner.write(buffer);
+    memory.put(planner, rating);
+    NumberRecord::of(answer)
+}

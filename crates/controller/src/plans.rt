@@ -1,0 +1,58 @@
+// The calls whose answer has a rating in it, and making a planner, which is told its scale. What they answer is told in each scale's own file.
+ghost use Rattle.planner.specs.Kept.{kept};
+ghost use Rattle.planner.specs.Plans.{Plans};
+ghost use Rattle.controller.specs.Calls.{kinds_at, Makes};
+ghost use Rattle.controller.specs.Plans.{Rates};
+
+use super::RefusalRecord;
+use cells::Choice;
+use device::{Accelerator, Processor};
+use planner::{Kept, Plan, Planner};
+use refusals::Refusal;
+use scale::Scale;
+
+pub(crate) fn new<S: Scale + Drop>(
+    memory: &mut Kept,
+    scale: S,
+    rating: &mut S::Rating,
+    limit: u32,
+) -> RefusalRecord
+    ensures { Makes (kept scale rating.old memory.old) (kept scale rating.new memory.new) scale limit result }
+{
+    match Accelerator::new(limit) {
+        Ok(accelerator) => {
+            memory.put(Planner::new(accelerator, Processor, scale), rating);
+            RefusalRecord::GRANTED
+        }
+        Err(refusal) => RefusalRecord::of(refusal),
+    }
+}
+
+pub(crate) fn plan<S: Scale + Drop>(
+    memory: &mut Kept,
+    scale: S,
+    rating: &mut S::Rating,
+    ideals: &mut [u64],
+    ratings: &mut [S::Rating],
+    choices: &mut [Choice],
+) -> Result<Plan<S::Rating>, Refusal>
+    ensures { Plans (kinds_at (kept scale rating.old memory.old)) (S.rules scale) ideals.old ideals.new ratings.old choices.old ratings.new choices.new (kept scale rating.old memory.old) (kept scale rating.new memory.new) result }
+{
+    let mut planner = memory.take(scale, *rating);
+    let answer = planner.plan(ideals, ratings, choices);
+    memory.put(planner, rating);
+    answer
+}
+
+pub(crate) fn rating<S: Scale + Drop>(
+    memory: &mut Kept,
+    scale: S,
+    rating: &mut S::Rating,
+) -> Result<S::Rating, Refusal>
+    ensures { Rates (kept scale rating.old memory.old) (kept scale rating.new memory.new) result }
+{
+    let planner = memory.take(scale, *rating);
+    let answer = planner.rating();
+    memory.put(planner, rating);
+    answer
+}
