@@ -4,7 +4,7 @@
 --   Edits             a call that changes the sheet to n where it is granted, which it is if nothing is told
 --   Makes s M         the planner is new, on the scale s, with an accelerator of the limit M
 --   Adds o, Joins u v, Retimes v o, Counts k l, Loads f, Clears    the sheet changes so
---   Stages i, Places v, Margins pick    what is read of the split that stands
+--   Stages i, Places v, Rates, Margins pick    what is read of the split that stands
 --   Pages b b', Writes b b'             what is written into a buffer, b being its bytes before and b' after
 use Rattle.std.specs.Prelude.{◌≡◌, ◌≢◌, ℕ, List, [], length, Result, MatchResult, nat_le}
 use Rattle.refusals.specs.declared.Refusal.{Refusal}
@@ -23,8 +23,8 @@ use Rattle.device.specs.Loads.{accelerated, processed}
 use Rattle.split.specs.Splits.{Kinds, kinds}
 use Rattle.pages.specs.Pages.{HasPage}
 use Rattle.planner.specs.States.{State, fresh, edited}
-use Rattle.planner.specs.Answers.{stage_answer, place_answer, margin_answer, page_told, page_text}
-use Rattle.controller.specs.declared.answers.RefusalRecord.{RefusalRecord}
+use Rattle.planner.specs.Answers.{rating_answer, stage_answer, place_answer, margin_answer, page_told, page_text}
+use Rattle.controller.specs.declared.refused.RefusalRecord.{RefusalRecord}
 use Rattle.controller.specs.declared.answers.NumberRecord.{NumberRecord}
 use Rattle.controller.specs.declared.answers.StageRecord.{StageRecord}
 use Rattle.controller.specs.declared.answers.MarginRecord.{MarginRecord}
@@ -73,6 +73,9 @@ module _ {S R : Type 0} where
 
     abbrev pub Places : ℕ → NumberRecord → Type 0
     Places v a = (a ≡ number_of (place_answer p.net p.standing v)) × (p' ≡ p)
+
+    abbrev pub Rates : Result R Refusal → Type 0
+    Rates r = (r ≡ rating_answer p.standing) × (p' ≡ p)
 
     abbrev pub Margins : ℕ → MarginRecord → Type 0
     Margins pick a = (a ≡ margin_of (margin_answer p.net (kinds_at p) p.standing pick)) × (p' ≡ p)

@@ -1,3 +1,3 @@
 pub mod Told
 pub mod Calls
-pub mod Plans
+pub mod Peaks

@@ -6,7 +6,7 @@
 use Rattle.std.specs.Prelude.{ℕ, ℤ, pos, List, [], ◌∷◌, Result, Ok, Err, slice_index}
 use Rattle.refusals.specs.declared.Refusal.{Refusal}
 use Rattle.refusals.specs.Told.{told}
-use Rattle.controller.specs.declared.answers.RefusalRecord.{RefusalRecord}
+use Rattle.controller.specs.declared.refused.RefusalRecord.{RefusalRecord}
 use Rattle.controller.specs.declared.answers.NumberRecord.{NumberRecord}
 use Rattle.controller.specs.declared.answers.StageRecord.{StageRecord}
 use Rattle.controller.specs.declared.answers.MarginRecord.{MarginRecord}

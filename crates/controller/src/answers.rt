@@ -1,19 +1,9 @@
 // What a call answers, as a caller in C reads it. Where it is refused, everything but the refusal is 0.
 ghost use Rattle.std.specs.Prelude.{◌≡◌};
-ghost use Rattle.refusals.specs.Told.{told, outcome};
-ghost use Rattle.controller.specs.Told.{granted, refusal_told, number_of, stage_of, margin_of};
+ghost use Rattle.controller.specs.Told.{number_of, stage_of, margin_of};
 
+use super::RefusalRecord;
 use refusals::Refusal;
-
-// Why a call is refused: a number and its values, or zeros.
-#[repr(C)]
-#[derive(Clone, Copy)]
-pub struct RefusalRecord {
-    pub entry: usize,
-    pub number: u8,
-    pub section: u8,
-    pub reason: u8,
-}
 
 #[repr(C)]
 #[derive(Clone, Copy)]
@@ -36,56 +26,6 @@ pub struct StageRecord {
 pub struct MarginRecord {
     pub refusal: RefusalRecord,
     pub ticks: i64,
-}
-
-impl RefusalRecord {
-    // Of a call that is granted.
-    pub const GRANTED: RefusalRecord = RefusalRecord {
-        entry: 0,
-        number: 0,
-        section: 0,
-        reason: 0,
-    };
-
-    pub(crate) fn of(refusal: Refusal) -> RefusalRecord
-        ensures { result ≡ refusal_told (told refusal) }
-    {
-        let number = refusal.number();
-        match refusal {
-            Refusal::ContentsEntry(index) => RefusalRecord {
-                entry: usize::from(index),
-                number,
-                section: 0,
-                reason: 0,
-            },
-            Refusal::BodyEntry {
-                section,
-                entry,
-                reason,
-            } => RefusalRecord {
-                entry,
-                number,
-                section: section.number(),
-                reason: reason.number(),
-            },
-            _ => RefusalRecord {
-                entry: 0,
-                number,
-                section: 0,
-                reason: 0,
-            },
-        }
-    }
-
-    // Of a call that answers only that it is granted.
-    pub(crate) fn of_change(answer: Result<(), Refusal>) -> RefusalRecord
-        ensures { result ≡ refusal_told (outcome answer) }
-    {
-        match answer {
-            Ok(()) => RefusalRecord::GRANTED,
-            Err(refusal) => RefusalRecord::of(refusal),
-        }
-    }
 }
 
 impl NumberRecord {

@@ -2,8 +2,14 @@
 #![tactic(auto)]
 
 mod answers;
-mod calls;
+mod edits;
+mod peak_edits;
+mod peak_reads;
 mod peaks;
 mod plans;
+mod reads;
+mod refused;
 
-pub use answers::{MarginRecord, NumberRecord, RefusalRecord, StageRecord};
+pub use answers::{MarginRecord, NumberRecord, StageRecord};
+pub use peaks::{PeakPlanRecord, PeakPlanner, PeakRatingRecord};
+pub use refused::RefusalRecord;

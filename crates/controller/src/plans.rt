@@ -1,8 +1,7 @@
-// The calls whose answer has a rating in it, and making a planner, which is told its scale. What they answer is told in each scale's own file.
+// Making a planner, and the calls whose answer has a rating in it, on each scale alike. What they answer is told in the file of the scale.
 ghost use Rattle.planner.specs.Kept.{kept};
 ghost use Rattle.planner.specs.Plans.{Plans};
-ghost use Rattle.controller.specs.Calls.{kinds_at, Makes};
-ghost use Rattle.controller.specs.Plans.{Rates};
+ghost use Rattle.controller.specs.Calls.{kinds_at, Makes, Rates};
 
 use super::RefusalRecord;
 use cells::Choice;

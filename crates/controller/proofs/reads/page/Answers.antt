@@ -3,7 +3,7 @@ use Rattle.planner.specs.Views.{state}
 use Rattle.planner.specs.Kept.{kept}
 use Rattle.controller.specs.Calls.{Pages}
 use Rattle.controller.proofs.Moved.{kept_still, page_moved}
-use Rattle.controller.proofs.calls.page.Goals as goal
+use Rattle.controller.proofs.reads.page.Goals as goal
 
 pub returns : goal.returns
 returns g c =

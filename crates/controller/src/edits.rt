@@ -1,8 +1,8 @@
-// The calls on each scale alike: the planner is taken out of its memory, called, and put back.
+// The calls that change the sheet, on each scale alike: the planner is taken out of its memory, called, and put back.
 ghost use Rattle.planner.specs.Kept.{kept};
-ghost use Rattle.controller.specs.Calls.{Adds, Joins, Retimes, Counts, Loads, Clears, Stages, Places, Margins, Pages, Writes};
+ghost use Rattle.controller.specs.Calls.{Adds, Joins, Retimes, Counts, Loads, Clears};
 
-use super::{MarginRecord, NumberRecord, RefusalRecord, StageRecord};
+use super::{NumberRecord, RefusalRecord};
 use planner::Kept;
 use scale::Scale;
 use sheet::Operator;
@@ -86,74 +86,4 @@ pub(crate) fn clear<S: Scale + Drop>(memory: &mut Kept, scale: S, rating: &mut S
     let mut planner = memory.take(scale, *rating);
     planner.clear();
     memory.put(planner, rating);
-}
-
-pub(crate) fn stage<S: Scale + Drop>(
-    memory: &mut Kept,
-    scale: S,
-    rating: &mut S::Rating,
-    i: usize,
-) -> StageRecord
-    ensures { Stages (kept scale rating.old memory.old) (kept scale rating.new memory.new) i result }
-{
-    let planner = memory.take(scale, *rating);
-    let answer = planner.stage(i);
-    memory.put(planner, rating);
-    StageRecord::of(answer)
-}
-
-pub(crate) fn place<S: Scale + Drop>(
-    memory: &mut Kept,
-    scale: S,
-    rating: &mut S::Rating,
-    v: usize,
-) -> NumberRecord
-    ensures { Places (kept scale rating.old memory.old) (kept scale rating.new memory.new) v result }
-{
-    let planner = memory.take(scale, *rating);
-    let answer = planner.place(v);
-    memory.put(planner, rating);
-    NumberRecord::of(answer)
-}
-
-pub(crate) fn margin<S: Scale + Drop>(
-    memory: &mut Kept,
-    scale: S,
-    rating: &mut S::Rating,
-    pick: u32,
-) -> MarginRecord
-    ensures { Margins (kept scale rating.old memory.old) (kept scale rating.new memory.new) pick result }
-{
-    let planner = memory.take(scale, *rating);
-    let answer = planner.margin(pick);
-    memory.put(planner, rating);
-    MarginRecord::of(answer)
-}
-
-pub(crate) fn page<S: Scale + Drop>(
-    memory: &mut Kept,
-    scale: S,
-    rating: &mut S::Rating,
-    buffer: &mut [u8],
-) -> NumberRecord
-    ensures { Pages (kept scale rating.old memory.old) (kept scale rating.new memory.new) buffer.old buffer.new result }
-{
-    let planner = memory.take(scale, *rating);
-    let answer = planner.page(buffer);
-    memory.put(planner, rating);
-    NumberRecord::of(answer)
-}
-
-pub(crate) fn write<S: Scale + Drop>(
-    memory: &mut Kept,
-    scale: S,
-    rating: &mut S::Rating,
-    buffer: &mut [u8],
-) -> NumberRecord
-    ensures { Writes (kept scale rating.old memory.old) (kept scale rating.new memory.new) buffer.old buffer.new result }
-{
-    let planner = memory.take(scale, *rating);
-    let answer = planner.write(buffer);
-    memory.put(planner, rating);
-    NumberRecord::of(answer)
 }

@@ -2,7 +2,7 @@ use Rattle.std.proofs.Common.{◌∙◌}
 use Rattle.planner.specs.Views.{state}
 use Rattle.planner.specs.Kept.{kept}
 use Rattle.controller.proofs.Moved.{kept_still, margin_told}
-use Rattle.controller.proofs.calls.margin.Goals as goal
+use Rattle.controller.proofs.reads.margin.Goals as goal
 
 pub returns : goal.returns
 returns g c =
