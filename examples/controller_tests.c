@@ -176,6 +176,48 @@ static void buffers_take_each_length(void)
     CHECK(planner_peak_rating(planner).rating == 8);
 }
 
+/* Makes every call on another scale, and checks what the diamond's least split is there. */
+#define CHECK_ON(scale, rating_type, is_least, most_stages, last_mask, pace, text) \
+    static void the_calls_on_##scale(void) \
+    { \
+        static struct planner_##scale other; \
+        static rating_type table[CELLS + 1]; \
+        const size_t page = sizeof text - 1; \
+        CHECK(is(planner_##scale##_new(&other, 1000000001), 1) && is(planner_##scale##_new(&other, 6), 0)); \
+        CHECK(planner_##scale##_add(&other, 2, 6, 1, 1).value == 0 && planner_##scale##_add(&other, 4, 8, 2, 1).value == 1); \
+        CHECK(planner_##scale##_add(&other, 3, 9, 2, 1).value == 2 && planner_##scale##_add(&other, 1, 1, 1, 1).value == 3); \
+        CHECK(is(planner_##scale##_retime(&other, 3, 2, 5, 1, 1), 0) && is(planner_##scale##_retime(&other, 4, 2, 5, 1, 1), 3)); \
+        CHECK(is(planner_##scale##_join(&other, 0, 1), 0) && is(planner_##scale##_join(&other, 0, 2), 0)); \
+        CHECK(is(planner_##scale##_join(&other, 1, 3), 0) && is(planner_##scale##_join(&other, 2, 3), 0)); \
+        CHECK(is(planner_##scale##_join(&other, 2, 3), 5)); \
+        CHECK(is(planner_##scale##_count(&other, 9, 0), 6) && is(planner_##scale##_count(&other, 2, 0), 0)); \
+        CHECK(is(planner_##scale##_plan(&other, ideals, 5, table, CELLS, choices, CELLS).refusal, 7)); \
+        CHECK(is(planner_##scale##_plan(&other, ideals, IDEALS, table, CELLS - 1, choices, CELLS).refusal, 8)); \
+        CHECK(is(planner_##scale##_rating(&other).refusal, 10)); \
+        memset(table, MARK, sizeof table); \
+        struct planner_##scale##_plan plan = planner_##scale##_plan(&other, ideals, IDEALS, table, CELLS, choices, CELLS); \
+        CHECK(is(plan.refusal, 0) && is_least(plan.rating) && plan.stages == most_stages && plan.ideals == IDEALS); \
+        CHECK(is_least(table[CELLS - 1]) && all_are(&table[CELLS], sizeof table[0], MARK)); \
+        CHECK(is(planner_##scale##_rating(&other).refusal, 0) && is_least(planner_##scale##_rating(&other).rating)); \
+        CHECK(planner_##scale##_stage(&other, most_stages - 1).mask == last_mask); \
+        CHECK(is(planner_##scale##_stage(&other, most_stages).refusal, 11)); \
+        CHECK(planner_##scale##_place(&other, 3).value == most_stages - 1 && is(planner_##scale##_place(&other, 4).refusal, 3)); \
+        CHECK(planner_##scale##_margin(&other, 1).ticks == 1 - pace); \
+        CHECK(is(planner_##scale##_page(&other, buffer, page - 1).refusal, 15)); \
+        CHECK(planner_##scale##_page(&other, buffer, page).value == page && memcmp(buffer, text, page) == 0); \
+        CHECK(is(planner_##scale##_write(&other, buffer, 93).refusal, 15) && planner_##scale##_write(&other, buffer, 94).value == 94); \
+        planner_##scale##_clear(&other); \
+        CHECK(is(planner_##scale##_rating(&other).refusal, 10) && planner_##scale##_write(&other, buffer + 94, 22).value == 22); \
+        CHECK(is(planner_##scale##_load(&other, buffer, 19), 12) && is(planner_##scale##_load(&other, buffer, 94), 0)); \
+        CHECK(is_least(planner_##scale##_plan(&other, ideals, IDEALS, table, CELLS, choices, CELLS).rating)); \
+    }
+
+#define IS_11(rating) ((rating) == 11)
+#define IS_8_AND_2(rating) ((rating).ticks == 8 && (rating).link == 2)
+
+CHECK_ON(line, uint64_t, IS_11, 1, 15, 11, "stages 1 pace 11\nA 0 1 2 3\n")
+CHECK_ON(pair, struct planner_ticks_and_link, IS_8_AND_2, 2, 12, 8, "stages 2 pace 8\nA 0 1\nA 2 3\n")
+
 int main(void)
 {
     memset(memory.before, MARK, sizeof memory.before);
@@ -186,6 +228,8 @@ int main(void)
     plan_takes_each_length();
     the_split_is_read();
     buffers_take_each_length();
+    the_calls_on_line();
+    the_calls_on_pair();
     CHECK(all_are(memory.before, sizeof memory.before, MARK) && all_are(memory.after, sizeof memory.after, MARK));
     return 0;
 }

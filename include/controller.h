@@ -7,7 +7,7 @@
  *
  * Of every call:
  *   - It tests all that it is handed, and is refused with a number where something is wrong. A refused call changes nothing, but for the
- *     tables as `planner_peak_plan` says. In its answer everything but the refusal is then 0.
+ *     tables as `plan` says. In its answer everything but the refusal is then 0.
  *   - A pointer is never NULL, also where the length beside it is 0. A length is that of the memory that its pointer leads to, counted in
  *     elements. The memory that one call is lent does not overlap.
  *   - Nothing allocates, and nothing is kept of what a call is lent but the planner itself.
@@ -24,10 +24,19 @@ extern "C" {
 #endif
 
 /*
- * A planner on the scale peak. Its bytes say nothing to the caller, who never writes them: they are all 0, as those of a static are, until
- * `planner_peak_new` makes them a planner, and from then on only the library makes them. They may be moved and copied whole.
+ * A planner on the scale peak (the slowest stage), line (all ticks) or pair (ticks and then link of the largest stage). Its bytes say nothing
+ * to the caller, who never writes them: they are all 0, as those of a static are, until the `new` of its scale makes them a planner, and from
+ * then on only the library makes them. They may be moved and copied whole.
  */
 struct planner_peak {
+    uint64_t opaque[230];
+};
+
+struct planner_line {
+    uint64_t opaque[230];
+};
+
+struct planner_pair {
     uint64_t opaque[230];
 };
 
@@ -48,7 +57,13 @@ struct planner_number {
     size_t value;
 };
 
-/* What is answered of a split: its rating, how many stages it has, and how many ideals the sheet has. */
+/* A rating on the scale pair. */
+struct planner_ticks_and_link {
+    uint32_t ticks;
+    uint32_t link;
+};
+
+/* What is answered of a split: how many stages it has, how many ideals the sheet has, and its rating, on each scale. */
 struct planner_peak_plan {
     struct planner_refusal refusal;
     size_t stages;
@@ -56,10 +71,34 @@ struct planner_peak_plan {
     uint32_t rating;
 };
 
-/* The rating of a split. */
+struct planner_line_plan {
+    struct planner_refusal refusal;
+    size_t stages;
+    size_t ideals;
+    uint64_t rating;
+};
+
+struct planner_pair_plan {
+    struct planner_refusal refusal;
+    size_t stages;
+    size_t ideals;
+    struct planner_ticks_and_link rating;
+};
+
+/* The rating of a split, on each scale. */
 struct planner_peak_rating {
     struct planner_refusal refusal;
     uint32_t rating;
+};
+
+struct planner_line_rating {
+    struct planner_refusal refusal;
+    uint64_t rating;
+};
+
+struct planner_pair_rating {
+    struct planner_refusal refusal;
+    struct planner_ticks_and_link rating;
 };
 
 /* A stage: the set of its operators (bit v stands for operator v), how many they are, and its kind, 1 or 2. */
@@ -82,12 +121,14 @@ struct planner_choice {
     uint8_t kind;
 };
 
+/*
+ * The calls on the scale peak.
+ */
+
 /* Makes a planner without operators, edges, devices and a split, whose accelerators take stages up to a size of `limit`. Refused with 1. */
 struct planner_refusal planner_peak_new(struct planner_peak *planner, uint32_t limit);
 
-/*
- * The calls that change the sheet. A granted one takes away the split that stands.
- */
+/* The next six change the sheet. A granted one takes away the split that stands. */
 
 /* Appends an operator and answers its number. Refused with 2, 1. */
 struct planner_number planner_peak_add(struct planner_peak *planner, uint32_t acc, uint32_t cpu, uint32_t size, uint32_t link);
@@ -116,9 +157,7 @@ struct planner_peak_plan planner_peak_plan(struct planner_peak *planner,
                                            uint32_t *ratings, size_t ratings_length,
                                            struct planner_choice *choices, size_t choices_length);
 
-/*
- * The calls that only read. They leave the planner as it is; yet no other call may use it meanwhile.
- */
+/* The others only read. They leave the planner as it is; yet no other call may use it meanwhile. */
 
 /* A stage of the split; stages count from 0. Refused with 10, 11. */
 struct planner_stage planner_peak_stage(struct planner_peak *planner, size_t number);
@@ -137,6 +176,50 @@ struct planner_number planner_peak_page(struct planner_peak *planner, uint8_t *b
 
 /* Writes the sheet's file to the front of the buffer and answers its length, 5,078 at most. Refused with 15. */
 struct planner_number planner_peak_write(struct planner_peak *planner, uint8_t *buffer, size_t length);
+
+/*
+ * The same calls on the scale line.
+ */
+
+struct planner_refusal planner_line_new(struct planner_line *planner, uint32_t limit);
+struct planner_number planner_line_add(struct planner_line *planner, uint32_t acc, uint32_t cpu, uint32_t size, uint32_t link);
+struct planner_refusal planner_line_join(struct planner_line *planner, size_t from, size_t to);
+struct planner_refusal planner_line_retime(struct planner_line *planner, size_t number, uint32_t acc, uint32_t cpu, uint32_t size, uint32_t link);
+struct planner_refusal planner_line_count(struct planner_line *planner, uint8_t k, uint8_t l);
+struct planner_refusal planner_line_load(struct planner_line *planner, const uint8_t *file, size_t length);
+void planner_line_clear(struct planner_line *planner);
+struct planner_line_plan planner_line_plan(struct planner_line *planner,
+                                           uint64_t *ideals, size_t ideals_length,
+                                           uint64_t *ratings, size_t ratings_length,
+                                           struct planner_choice *choices, size_t choices_length);
+struct planner_stage planner_line_stage(struct planner_line *planner, size_t number);
+struct planner_number planner_line_place(struct planner_line *planner, size_t number);
+struct planner_line_rating planner_line_rating(struct planner_line *planner);
+struct planner_margin planner_line_margin(struct planner_line *planner, uint32_t pick);
+struct planner_number planner_line_page(struct planner_line *planner, uint8_t *buffer, size_t length);
+struct planner_number planner_line_write(struct planner_line *planner, uint8_t *buffer, size_t length);
+
+/*
+ * The same calls on the scale pair.
+ */
+
+struct planner_refusal planner_pair_new(struct planner_pair *planner, uint32_t limit);
+struct planner_number planner_pair_add(struct planner_pair *planner, uint32_t acc, uint32_t cpu, uint32_t size, uint32_t link);
+struct planner_refusal planner_pair_join(struct planner_pair *planner, size_t from, size_t to);
+struct planner_refusal planner_pair_retime(struct planner_pair *planner, size_t number, uint32_t acc, uint32_t cpu, uint32_t size, uint32_t link);
+struct planner_refusal planner_pair_count(struct planner_pair *planner, uint8_t k, uint8_t l);
+struct planner_refusal planner_pair_load(struct planner_pair *planner, const uint8_t *file, size_t length);
+void planner_pair_clear(struct planner_pair *planner);
+struct planner_pair_plan planner_pair_plan(struct planner_pair *planner,
+                                           uint64_t *ideals, size_t ideals_length,
+                                           struct planner_ticks_and_link *ratings, size_t ratings_length,
+                                           struct planner_choice *choices, size_t choices_length);
+struct planner_stage planner_pair_stage(struct planner_pair *planner, size_t number);
+struct planner_number planner_pair_place(struct planner_pair *planner, size_t number);
+struct planner_pair_rating planner_pair_rating(struct planner_pair *planner);
+struct planner_margin planner_pair_margin(struct planner_pair *planner, uint32_t pick);
+struct planner_number planner_pair_page(struct planner_pair *planner, uint8_t *buffer, size_t length);
+struct planner_number planner_pair_write(struct planner_pair *planner, uint8_t *buffer, size_t length);
 
 #ifdef __cplusplus
 }
