@@ -13,7 +13,7 @@ pub(crate) fn add<S: Scale + Drop>(
     rating: &mut S::Rating,
     operator: Operator,
 ) -> NumberRecord
-    ensures { Adds (kept scale rating.old memory.old) (kept scale rating.new memory.new) operator result }
+    ensures { Adds (S.rules scale) (kept scale rating.old memory.old) (kept scale rating.new memory.new) operator result }
 {
     let mut planner = memory.take(scale, *rating);
     let answer = planner.add(operator);
@@ -28,7 +28,7 @@ pub(crate) fn join<S: Scale + Drop>(
     from: usize,
     to: usize,
 ) -> RefusalRecord
-    ensures { Joins (kept scale rating.old memory.old) (kept scale rating.new memory.new) from to result }
+    ensures { Joins (S.rules scale) (kept scale rating.old memory.old) (kept scale rating.new memory.new) from to result }
 {
     let mut planner = memory.take(scale, *rating);
     let answer = planner.join(from, to);
@@ -43,7 +43,7 @@ pub(crate) fn retime<S: Scale + Drop>(
     v: usize,
     figures: &Operator,
 ) -> RefusalRecord
-    ensures { Retimes (kept scale rating.old memory.old) (kept scale rating.new memory.new) v figures.now result }
+    ensures { Retimes (S.rules scale) (kept scale rating.old memory.old) (kept scale rating.new memory.new) v figures.now result }
 {
     let mut planner = memory.take(scale, *rating);
     let answer = planner.retime(v, figures);
@@ -58,7 +58,7 @@ pub(crate) fn count<S: Scale + Drop>(
     k: u8,
     l: u8,
 ) -> RefusalRecord
-    ensures { Counts (kept scale rating.old memory.old) (kept scale rating.new memory.new) k l result }
+    ensures { Counts (S.rules scale) (kept scale rating.old memory.old) (kept scale rating.new memory.new) k l result }
 {
     let mut planner = memory.take(scale, *rating);
     let answer = planner.count(k, l);
@@ -72,7 +72,7 @@ pub(crate) fn load<S: Scale + Drop>(
     rating: &mut S::Rating,
     file: &[u8],
 ) -> RefusalRecord
-    ensures { Loads (kept scale rating.old memory.old) (kept scale rating.new memory.new) file.now result }
+    ensures { Loads (S.rules scale) (kept scale rating.old memory.old) (kept scale rating.new memory.new) file.entry result }
 {
     let mut planner = memory.take(scale, *rating);
     let answer = planner.load(file);
@@ -81,7 +81,7 @@ pub(crate) fn load<S: Scale + Drop>(
 }
 
 pub(crate) fn clear<S: Scale + Drop>(memory: &mut Kept, scale: S, rating: &mut S::Rating)
-    ensures { Clears (kept scale rating.old memory.old) (kept scale rating.new memory.new) }
+    ensures { Clears (S.rules scale) (kept scale rating.old memory.old) (kept scale rating.new memory.new) }
 {
     let mut planner = memory.take(scale, *rating);
     planner.clear();

@@ -1,10 +1,10 @@
 // The calls that change a planner on the scale line, exported.
-ghost use Rattle.std.specs.Prelude.{◌≡◌, ℕ, Result};
+ghost use Rattle.std.specs.Prelude.{◌≡◌, ℕ, length, Result};
 ghost use Rattle.refusals.specs.declared.Refusal.{Refusal};
 ghost use Rattle.scale.specs.Scales.{line};
 ghost use Rattle.planner.specs.declared.plans.Plan.{Plan};
 ghost use Rattle.planner.specs.Plans.{Plans};
-ghost use Rattle.controller.specs.Calls.{kinds_at, Makes, Adds, Joins, Retimes, Counts, Loads, Clears};
+ghost use Rattle.controller.specs.Calls.{kinds_at, Makes, Adds, Joins, Retimes, Counts, Loads, Clears, PlanAdds};
 ghost use Rattle.controller.specs.Lines.{on_line, plan_of};
 
 use super::{LinePlanRecord, LinePlanner, NumberRecord, RefusalRecord, edits, plans};
@@ -15,7 +15,7 @@ use sheet::Operator;
 // Makes a planner without operators, edges, devices and a split.
 #[unsafe(no_mangle)]
 pub extern "C" fn planner_line_new(planner: &mut LinePlanner, limit: u32) -> RefusalRecord
-    ensures { Makes (on_line planner.old) (on_line planner.new) (on_line planner.old).scale limit result }
+    ensures { Makes line (on_line planner.old) (on_line planner.new) (on_line planner.old).scale limit result }
 {
     plans::new(&mut planner.kept, Line, &mut planner.rating, limit)
 }
@@ -28,7 +28,7 @@ pub extern "C" fn planner_line_add(
     size: u32,
     link: u32,
 ) -> NumberRecord
-    ensures { Adds (on_line planner.old) (on_line planner.new) (record { acc = acc; cpu = cpu; size = size; link = link }) result }
+    ensures { Adds line (on_line planner.old) (on_line planner.new) (record { acc = acc; cpu = cpu; size = size; link = link }) result }
 {
     let operator = Operator {
         acc,
@@ -45,7 +45,7 @@ pub extern "C" fn planner_line_join(
     from: usize,
     to: usize,
 ) -> RefusalRecord
-    ensures { Joins (on_line planner.old) (on_line planner.new) from to result }
+    ensures { Joins line (on_line planner.old) (on_line planner.new) from to result }
 {
     edits::join(&mut planner.kept, Line, &mut planner.rating, from, to)
 }
@@ -59,7 +59,7 @@ pub extern "C" fn planner_line_retime(
     size: u32,
     link: u32,
 ) -> RefusalRecord
-    ensures { Retimes (on_line planner.old) (on_line planner.new) number (record { acc = acc; cpu = cpu; size = size; link = link }) result }
+    ensures { Retimes line (on_line planner.old) (on_line planner.new) number (record { acc = acc; cpu = cpu; size = size; link = link }) result }
 {
     let figures = Operator {
         acc,
@@ -78,21 +78,21 @@ pub extern "C" fn planner_line_retime(
 
 #[unsafe(no_mangle)]
 pub extern "C" fn planner_line_count(planner: &mut LinePlanner, k: u8, l: u8) -> RefusalRecord
-    ensures { Counts (on_line planner.old) (on_line planner.new) k l result }
+    ensures { Counts line (on_line planner.old) (on_line planner.new) k l result }
 {
     edits::count(&mut planner.kept, Line, &mut planner.rating, k, l)
 }
 
 #[unsafe(no_mangle)]
 pub extern "C" fn planner_line_load(planner: &mut LinePlanner, file: &[u8]) -> RefusalRecord
-    ensures { Loads (on_line planner.old) (on_line planner.new) file.now result }
+    ensures { Loads line (on_line planner.old) (on_line planner.new) file.entry result }
 {
     edits::load(&mut planner.kept, Line, &mut planner.rating, file)
 }
 
 #[unsafe(no_mangle)]
 pub extern "C" fn planner_line_clear(planner: &mut LinePlanner)
-    ensures { Clears (on_line planner.old) (on_line planner.new) }
+    ensures { Clears line (on_line planner.old) (on_line planner.new) }
 {
     edits::clear(&mut planner.kept, Line, &mut planner.rating);
 }
@@ -105,7 +105,7 @@ pub extern "C" fn planner_line_plan(
     ratings: &mut [u64],
     choices: &mut [Choice],
 ) -> LinePlanRecord
-    ensures { (r : Result (Plan ℕ) Refusal) × Plans (kinds_at (on_line planner.old)) line ideals.old ideals.new ratings.old choices.old ratings.new choices.new (on_line planner.old) (on_line planner.new) r × (result ≡ plan_of r) }
+    ensures { (r : Result (Plan ℕ) Refusal) × Plans (kinds_at (on_line planner.old)) line ideals.old ideals.new ratings.old choices.old ratings.new choices.new (on_line planner.old) (on_line planner.new) r × PlanAdds line (on_line planner.old) (on_line planner.new) (length ideals.old) (length ratings.old) (length choices.old) r × (result ≡ plan_of r) }
 {
     LinePlanRecord::of(plans::plan(
         &mut planner.kept,

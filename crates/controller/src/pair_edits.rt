@@ -1,11 +1,11 @@
 // The calls that change a planner on the scale pair, exported.
-ghost use Rattle.std.specs.Prelude.{◌≡◌, Result};
+ghost use Rattle.std.specs.Prelude.{◌≡◌, length, Result};
 ghost use Rattle.refusals.specs.declared.Refusal.{Refusal};
 ghost use Rattle.scale.specs.declared.pairs.PairRating.{PairRating};
 ghost use Rattle.scale.specs.Scales.{pair};
 ghost use Rattle.planner.specs.declared.plans.Plan.{Plan};
 ghost use Rattle.planner.specs.Plans.{Plans};
-ghost use Rattle.controller.specs.Calls.{kinds_at, Makes, Adds, Joins, Retimes, Counts, Loads, Clears};
+ghost use Rattle.controller.specs.Calls.{kinds_at, Makes, Adds, Joins, Retimes, Counts, Loads, Clears, PlanAdds};
 ghost use Rattle.controller.specs.Pairs.{on_pair, plan_of};
 
 use super::{NumberRecord, PairPlanRecord, PairPlanner, RefusalRecord, edits, plans};
@@ -16,7 +16,7 @@ use sheet::Operator;
 // Makes a planner without operators, edges, devices and a split.
 #[unsafe(no_mangle)]
 pub extern "C" fn planner_pair_new(planner: &mut PairPlanner, limit: u32) -> RefusalRecord
-    ensures { Makes (on_pair planner.old) (on_pair planner.new) (on_pair planner.old).scale limit result }
+    ensures { Makes pair (on_pair planner.old) (on_pair planner.new) (on_pair planner.old).scale limit result }
 {
     plans::new(&mut planner.kept, Pair, &mut planner.rating, limit)
 }
@@ -29,7 +29,7 @@ pub extern "C" fn planner_pair_add(
     size: u32,
     link: u32,
 ) -> NumberRecord
-    ensures { Adds (on_pair planner.old) (on_pair planner.new) (record { acc = acc; cpu = cpu; size = size; link = link }) result }
+    ensures { Adds pair (on_pair planner.old) (on_pair planner.new) (record { acc = acc; cpu = cpu; size = size; link = link }) result }
 {
     let operator = Operator {
         acc,
@@ -46,7 +46,7 @@ pub extern "C" fn planner_pair_join(
     from: usize,
     to: usize,
 ) -> RefusalRecord
-    ensures { Joins (on_pair planner.old) (on_pair planner.new) from to result }
+    ensures { Joins pair (on_pair planner.old) (on_pair planner.new) from to result }
 {
     edits::join(&mut planner.kept, Pair, &mut planner.rating, from, to)
 }
@@ -60,7 +60,7 @@ pub extern "C" fn planner_pair_retime(
     size: u32,
     link: u32,
 ) -> RefusalRecord
-    ensures { Retimes (on_pair planner.old) (on_pair planner.new) number (record { acc = acc; cpu = cpu; size = size; link = link }) result }
+    ensures { Retimes pair (on_pair planner.old) (on_pair planner.new) number (record { acc = acc; cpu = cpu; size = size; link = link }) result }
 {
     let figures = Operator {
         acc,
@@ -79,21 +79,21 @@ pub extern "C" fn planner_pair_retime(
 
 #[unsafe(no_mangle)]
 pub extern "C" fn planner_pair_count(planner: &mut PairPlanner, k: u8, l: u8) -> RefusalRecord
-    ensures { Counts (on_pair planner.old) (on_pair planner.new) k l result }
+    ensures { Counts pair (on_pair planner.old) (on_pair planner.new) k l result }
 {
     edits::count(&mut planner.kept, Pair, &mut planner.rating, k, l)
 }
 
 #[unsafe(no_mangle)]
 pub extern "C" fn planner_pair_load(planner: &mut PairPlanner, file: &[u8]) -> RefusalRecord
-    ensures { Loads (on_pair planner.old) (on_pair planner.new) file.now result }
+    ensures { Loads pair (on_pair planner.old) (on_pair planner.new) file.entry result }
 {
     edits::load(&mut planner.kept, Pair, &mut planner.rating, file)
 }
 
 #[unsafe(no_mangle)]
 pub extern "C" fn planner_pair_clear(planner: &mut PairPlanner)
-    ensures { Clears (on_pair planner.old) (on_pair planner.new) }
+    ensures { Clears pair (on_pair planner.old) (on_pair planner.new) }
 {
     edits::clear(&mut planner.kept, Pair, &mut planner.rating);
 }
@@ -106,7 +106,7 @@ pub extern "C" fn planner_pair_plan(
     ratings: &mut [PairRating],
     choices: &mut [Choice],
 ) -> PairPlanRecord
-    ensures { (r : Result (Plan PairRating) Refusal) × Plans (kinds_at (on_pair planner.old)) pair ideals.old ideals.new ratings.old choices.old ratings.new choices.new (on_pair planner.old) (on_pair planner.new) r × (result ≡ plan_of r) }
+    ensures { (r : Result (Plan PairRating) Refusal) × Plans (kinds_at (on_pair planner.old)) pair ideals.old ideals.new ratings.old choices.old ratings.new choices.new (on_pair planner.old) (on_pair planner.new) r × PlanAdds pair (on_pair planner.old) (on_pair planner.new) (length ideals.old) (length ratings.old) (length choices.old) r × (result ≡ plan_of r) }
 {
     PairPlanRecord::of(plans::plan(
         &mut planner.kept,

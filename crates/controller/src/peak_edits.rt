@@ -1,10 +1,10 @@
 // The calls that change a planner on the scale peak, exported.
-ghost use Rattle.std.specs.Prelude.{◌≡◌, ℕ, Result};
+ghost use Rattle.std.specs.Prelude.{◌≡◌, ℕ, length, Result};
 ghost use Rattle.refusals.specs.declared.Refusal.{Refusal};
 ghost use Rattle.scale.specs.Scales.{peak};
 ghost use Rattle.planner.specs.declared.plans.Plan.{Plan};
 ghost use Rattle.planner.specs.Plans.{Plans};
-ghost use Rattle.controller.specs.Calls.{kinds_at, Makes, Adds, Joins, Retimes, Counts, Loads, Clears};
+ghost use Rattle.controller.specs.Calls.{kinds_at, Makes, Adds, Joins, Retimes, Counts, Loads, Clears, PlanAdds};
 ghost use Rattle.controller.specs.Peaks.{on_peak, plan_of};
 
 use super::{NumberRecord, PeakPlanRecord, PeakPlanner, RefusalRecord, edits, plans};
@@ -15,7 +15,7 @@ use sheet::Operator;
 // Makes a planner without operators, edges, devices and a split.
 #[unsafe(no_mangle)]
 pub extern "C" fn planner_peak_new(planner: &mut PeakPlanner, limit: u32) -> RefusalRecord
-    ensures { Makes (on_peak planner.old) (on_peak planner.new) (on_peak planner.old).scale limit result }
+    ensures { Makes peak (on_peak planner.old) (on_peak planner.new) (on_peak planner.old).scale limit result }
 {
     plans::new(&mut planner.kept, Peak, &mut planner.rating, limit)
 }
@@ -28,7 +28,7 @@ pub extern "C" fn planner_peak_add(
     size: u32,
     link: u32,
 ) -> NumberRecord
-    ensures { Adds (on_peak planner.old) (on_peak planner.new) (record { acc = acc; cpu = cpu; size = size; link = link }) result }
+    ensures { Adds peak (on_peak planner.old) (on_peak planner.new) (record { acc = acc; cpu = cpu; size = size; link = link }) result }
 {
     let operator = Operator {
         acc,
@@ -45,7 +45,7 @@ pub extern "C" fn planner_peak_join(
     from: usize,
     to: usize,
 ) -> RefusalRecord
-    ensures { Joins (on_peak planner.old) (on_peak planner.new) from to result }
+    ensures { Joins peak (on_peak planner.old) (on_peak planner.new) from to result }
 {
     edits::join(&mut planner.kept, Peak, &mut planner.rating, from, to)
 }
@@ -59,7 +59,7 @@ pub extern "C" fn planner_peak_retime(
     size: u32,
     link: u32,
 ) -> RefusalRecord
-    ensures { Retimes (on_peak planner.old) (on_peak planner.new) number (record { acc = acc; cpu = cpu; size = size; link = link }) result }
+    ensures { Retimes peak (on_peak planner.old) (on_peak planner.new) number (record { acc = acc; cpu = cpu; size = size; link = link }) result }
 {
     let figures = Operator {
         acc,
@@ -78,21 +78,21 @@ pub extern "C" fn planner_peak_retime(
 
 #[unsafe(no_mangle)]
 pub extern "C" fn planner_peak_count(planner: &mut PeakPlanner, k: u8, l: u8) -> RefusalRecord
-    ensures { Counts (on_peak planner.old) (on_peak planner.new) k l result }
+    ensures { Counts peak (on_peak planner.old) (on_peak planner.new) k l result }
 {
     edits::count(&mut planner.kept, Peak, &mut planner.rating, k, l)
 }
 
 #[unsafe(no_mangle)]
 pub extern "C" fn planner_peak_load(planner: &mut PeakPlanner, file: &[u8]) -> RefusalRecord
-    ensures { Loads (on_peak planner.old) (on_peak planner.new) file.now result }
+    ensures { Loads peak (on_peak planner.old) (on_peak planner.new) file.entry result }
 {
     edits::load(&mut planner.kept, Peak, &mut planner.rating, file)
 }
 
 #[unsafe(no_mangle)]
 pub extern "C" fn planner_peak_clear(planner: &mut PeakPlanner)
-    ensures { Clears (on_peak planner.old) (on_peak planner.new) }
+    ensures { Clears peak (on_peak planner.old) (on_peak planner.new) }
 {
     edits::clear(&mut planner.kept, Peak, &mut planner.rating);
 }
@@ -105,7 +105,7 @@ pub extern "C" fn planner_peak_plan(
     ratings: &mut [u32],
     choices: &mut [Choice],
 ) -> PeakPlanRecord
-    ensures { (r : Result (Plan ℕ) Refusal) × Plans (kinds_at (on_peak planner.old)) peak ideals.old ideals.new ratings.old choices.old ratings.new choices.new (on_peak planner.old) (on_peak planner.new) r × (result ≡ plan_of r) }
+    ensures { (r : Result (Plan ℕ) Refusal) × Plans (kinds_at (on_peak planner.old)) peak ideals.old ideals.new ratings.old choices.old ratings.new choices.new (on_peak planner.old) (on_peak planner.new) r × PlanAdds peak (on_peak planner.old) (on_peak planner.new) (length ideals.old) (length ratings.old) (length choices.old) r × (result ≡ plan_of r) }
 {
     PeakPlanRecord::of(plans::plan(
         &mut planner.kept,
