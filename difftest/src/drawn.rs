@@ -3,5 +3,6 @@
 pub mod calls;
 pub mod draws;
 pub mod files;
+pub mod questions;
 pub mod sheets;
 pub mod tables;

@@ -1,5 +1,7 @@
 //! The calls of a planner and their answers, in a form that the model and the library share.
 
+use std::fmt;
+
 use crate::model::refusals::Told;
 use crate::model::scales::Rating;
 use crate::model::sheets::Operator;
@@ -42,11 +44,19 @@ pub struct ToldStage {
 }
 
 /// The three tables that a plan is lent.
-#[derive(Clone, PartialEq, Eq, Debug)]
+#[derive(Clone, PartialEq, Eq)]
 pub struct Tables {
     pub ideals: Vec<u64>,
     pub ratings: Vec<Rating>,
     pub choices: Vec<Choice>,
+}
+
+/// Their lengths alone.
+impl fmt::Debug for Tables {
+    fn fmt(&self, to: &mut fmt::Formatter<'_>) -> fmt::Result {
+        let lengths = [self.ideals.len(), self.ratings.len(), self.choices.len()];
+        write!(to, "tables of lengths {lengths:?}")
+    }
 }
 
 /// The index of the ideal before the last stage, and that stage's kind.

@@ -4,12 +4,15 @@ use super::draws::Draws;
 use super::files::file;
 use super::sheets::{operator, sheet};
 use super::tables::tables;
-use crate::model::limits::{MOST_DEVICES, MOST_FIGURE, MOST_OPERATORS};
+use crate::model::limits::{MOST_DEVICES, MOST_FIGURE, MOST_OPERATORS, MOST_TOLD};
+use crate::model::planners::Planner;
 use crate::model::sheets::{Operator, Sheet};
-use crate::planning::Tables;
+use crate::planning::{Answer, Plan, Planning, Tables};
 
 #[derive(Clone, Debug)]
 pub enum Call {
+    /// With accelerators of this limit.
+    Renew(u64),
     Add(Operator),
     Join(u64, u64),
     Retime(u64, Operator),
@@ -19,8 +22,9 @@ pub enum Call {
     Plan(Tables),
 }
 
-/// The next call on a planner that has this sheet. Most are within the rules.
-pub fn call(draws: &mut Draws, present: &Sheet) -> Call {
+/// The next call on this planner. Most are within the rules.
+pub fn call(draws: &mut Draws, planner: &Planner) -> Call {
+    let present = &planner.sheet;
     match draws.below(100) {
         0..=17 => Call::Add(any_operator(draws)),
         18..=37 => joined(draws, present),
@@ -29,7 +33,19 @@ pub fn call(draws: &mut Draws, present: &Sheet) -> Call {
         56..=58 => Call::Load(file(draws)),
         59..=60 => Call::Load(sheet(draws).file()),
         61 => Call::Clear,
-        _ => Call::Plan(tables(draws, present)),
+        62 => Call::Renew(limit(draws)),
+        _ => Call::Plan(tables(draws, planner.scale, present)),
+    }
+}
+
+/// Of accelerators.
+pub fn limit(draws: &mut Draws) -> u64 {
+    let near = draws.below(60) as u64;
+    match draws.below(12) {
+        0 => draws.one_of(&[MOST_TOLD + 1, 1 << 31, u32::MAX.into()]),
+        1 => MOST_TOLD,
+        2..=4 => MOST_FIGURE,
+        _ => near,
     }
 }
 
@@ -43,7 +59,7 @@ pub fn number(draws: &mut Draws, present: &Sheet) -> u64 {
     }
 }
 
-/// At the ends of narrower types too, where a number that is cut off would be a small one.
+/// At limits, and such that a number that is cut to fewer bits would be a small one.
 pub fn far_number(draws: &mut Draws, near: usize) -> u64 {
     let small = draws.below(near + 2) as u64;
     let most = MOST_OPERATORS as u64;
@@ -79,7 +95,7 @@ fn any_operator(draws: &mut Draws) -> Operator {
     if !draws.is_one_in(12) {
         return within;
     }
-    let above = draws.one_of(&[MOST_FIGURE + 1, 1 << 31, 1 << 32, u64::MAX]);
+    let above = draws.one_of(&[MOST_FIGURE + 1, 1 << 24, 1 << 31, u32::MAX.into()]);
     match draws.below(4) {
         0 => Operator {
             acc: above,
@@ -103,8 +119,47 @@ fn any_operator(draws: &mut Draws) -> Operator {
 fn devices(draws: &mut Draws) -> u64 {
     match draws.below(20) {
         0 => MOST_DEVICES + 1,
-        1 => draws.one_of(&[1 << 8, 1 << 32, u64::MAX]),
+        1 => draws.one_of(&[16, 128, u8::MAX.into()]),
         2..=4 => draws.below(MOST_DEVICES as usize + 1) as u64,
         _ => draws.below(4) as u64,
+    }
+}
+
+/// What a granted call answers.
+#[derive(Clone, Copy, PartialEq, Debug)]
+pub enum Granted {
+    Nothing,
+    Number(usize),
+    Plan(Plan),
+}
+
+impl Call {
+    /// As docs/REFUSALS.md names it.
+    pub fn name(&self) -> &'static str {
+        match self {
+            Call::Renew(_) => "new",
+            Call::Add(_) => "add",
+            Call::Join(..) => "join",
+            Call::Retime(..) => "retime",
+            Call::Count(..) => "count",
+            Call::Load(_) => "load",
+            Call::Clear => "clear",
+            Call::Plan(_) => "plan",
+        }
+    }
+
+    /// Makes the call; what it is lent stays in it.
+    pub fn made(&mut self, planner: &mut dyn Planning) -> Answer<Granted> {
+        let nothing = |()| Granted::Nothing;
+        match self {
+            &mut Call::Renew(limit) => planner.renew(limit).map(nothing),
+            &mut Call::Add(operator) => planner.add(operator).map(Granted::Number),
+            &mut Call::Join(from, to) => planner.join(from, to).map(nothing),
+            &mut Call::Retime(number, operator) => planner.retime(number, operator).map(nothing),
+            &mut Call::Count(k, l) => planner.count(k, l).map(nothing),
+            Call::Load(file) => planner.load(file).map(nothing),
+            Call::Clear => Ok(nothing(planner.clear())),
+            Call::Plan(tables) => planner.plan(tables).map(Granted::Plan),
+        }
     }
 }

@@ -61,7 +61,7 @@ pub fn operator(draws: &mut Draws) -> Operator {
     }
 }
 
-fn loose(draws: &mut Draws, operators: usize) -> Sheet {
+pub fn loose(draws: &mut Draws, operators: usize) -> Sheet {
     Sheet {
         operators: (0..operators).map(|_| operator(draws)).collect(),
         ..Sheet::default()

@@ -2,17 +2,32 @@
 
 use super::draws::Draws;
 use crate::model::limits::MOST_IDEALS;
-use crate::model::scales::Rating;
+use crate::model::scales::{Rating, Scale};
 use crate::model::sheets::Sheet;
 use crate::planning::{Choice, Tables};
 
-pub fn tables(draws: &mut Draws, sheet: &Sheet) -> Tables {
+pub fn tables(draws: &mut Draws, scale: Scale, sheet: &Sheet) -> Tables {
     let ideals = sheet.ideals(MOST_IDEALS + 1).len();
     let cells = ideals * sheet.cells_an_ideal();
-    let [ideals, ratings, choices] = [ideals, cells, cells].map(|needed| around(draws, needed));
+    let mut lengths = [ideals, cells, cells].map(|needed| around(draws, needed));
+    if ideals > MANY && !draws.is_one_in(16) {
+        lengths[0] = draws.below(ideals);
+    }
+    tables_of(draws, scale, lengths)
+}
+
+/// A sheet with more ideals than this has mostly too short a table, since to plan it takes long.
+const MANY: usize = 200;
+
+/// Of these lengths.
+pub fn tables_of(
+    draws: &mut Draws,
+    scale: Scale,
+    [ideals, ratings, choices]: [usize; 3],
+) -> Tables {
     Tables {
         ideals: (0..ideals).map(|_| draws.number()).collect(),
-        ratings: (0..ratings).map(|_| rating(draws)).collect(),
+        ratings: (0..ratings).map(|_| rating(draws, scale)).collect(),
         choices: (0..choices).map(|_| choice(draws)).collect(),
     }
 }
@@ -28,16 +43,18 @@ fn around(draws: &mut Draws, needed: usize) -> usize {
     }
 }
 
-fn rating(draws: &mut Draws) -> Rating {
+/// Of the width that ratings of this scale have.
+fn rating(draws: &mut Draws, scale: Scale) -> Rating {
+    let [ticks, link] = [(); 2].map(|()| draws.number() >> 32);
     Rating {
-        ticks: draws.number(),
-        link: draws.number(),
+        ticks,
+        link: if scale == Scale::Pair { link } else { 0 },
     }
 }
 
 fn choice(draws: &mut Draws) -> Choice {
     Choice {
-        ideal: draws.below(1 << 16),
-        kind: draws.below(1 << 8) as u64,
+        ideal: draws.below(1 << 32),
+        kind: draws.byte().into(),
     }
 }

@@ -51,6 +51,11 @@ impl Planner {
             .map_or(&[], |standing| &standing.stages)
     }
 
+    pub fn page_text(&self) -> Result<String, Refusal> {
+        self.standing()
+            .map(|standing| page(&standing.stages, standing.pace))
+    }
+
     fn standing(&self) -> Result<&Standing, Refusal> {
         self.standing.as_ref().ok_or(Refusal::NoSplit)
     }
@@ -166,8 +171,7 @@ impl Planning for Planner {
     }
 
     fn page(&mut self, buffer: &mut [u8]) -> Answer<usize> {
-        let standing = self.standing()?;
-        put(page(&standing.stages, standing.pace).as_bytes(), buffer)
+        put(self.page_text()?.as_bytes(), buffer)
     }
 
     fn write(&mut self, buffer: &mut [u8]) -> Answer<usize> {
