@@ -20,22 +20,30 @@ const SEED: u64 = 0x5EED_0F_100;
 
 fn main() -> ExitCode {
     worked::check(SEED);
+    library::check();
     let mut tally = Tally::default();
     let arguments: Vec<String> = std::env::args().skip(1).collect();
-    let alone = match arguments.as_slice() {
-        [name, case] => COMPARISONS
-            .iter()
-            .find(|comparison| comparison.name == name)
-            .zip(case.parse().ok()),
-        _ => None,
-    };
-    if let Some((comparison, case)) = alone {
-        return ended(is_alike(comparison, case, &mut tally));
+    match arguments.as_slice() {
+        [] => ended(are_alike(&mut tally) && is_complete(&tally)),
+        [name, case] => match compared(name).zip(case.parse().ok()) {
+            Some((comparison, case)) => ended(is_alike(comparison, case, &mut tally)),
+            None => ended(false),
+        },
+        _ => ended(false),
     }
-    let all_alike = COMPARISONS
+}
+
+fn compared(name: &str) -> Option<&'static Comparison> {
+    COMPARISONS
         .iter()
-        .all(|comparison| (0..comparison.cases).all(|case| is_alike(comparison, case, &mut tally)));
-    ended(all_alike && is_complete(&tally))
+        .find(|comparison| comparison.name == name)
+}
+
+/// Stops at the first difference.
+fn are_alike(tally: &mut Tally) -> bool {
+    COMPARISONS
+        .iter()
+        .all(|comparison| (0..comparison.cases).all(|case| is_alike(comparison, case, tally)))
 }
 
 /// Whether the library does in this case as the model does.
@@ -56,19 +64,17 @@ fn is_alike(comparison: &Comparison, case: usize, tally: &mut Tally) -> bool {
 
 /// Prints what was seen; whether nothing that must be seen is missing.
 fn is_complete(tally: &Tally) -> bool {
-    match tally.summary() {
-        Ok(seen) => println!("{seen}"),
-        Err(never) => eprintln!("never seen: {never}"),
-    }
-    let cases = COMPARISONS
-        .map(|comparison| format!("{} {}", comparison.cases, comparison.name))
-        .join(", ");
-    println!(
-        "difftest: {cases}; {} calls, {} splits; 0 differences",
-        tally.all(),
-        tally.granted("plan")
-    );
-    tally.summary().is_ok()
+    let missing = tally.missing();
+    missing
+        .iter()
+        .for_each(|never| eprintln!("never seen: {never}"));
+    let cases: String = COMPARISONS
+        .iter()
+        .map(|of| format!("{} {}, ", of.cases, of.name))
+        .collect();
+    let (calls, splits, refusals) = (tally.calls(), tally.granted("plan"), tally.refusals());
+    println!("difftest: {cases}{calls} calls, {splits} splits; refusals {refusals}; 0 differences");
+    missing.is_empty()
 }
 
 fn ended(well: bool) -> ExitCode {

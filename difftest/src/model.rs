@@ -1,5 +1,6 @@
 //! The planner and all below it, written from docs/ alone. It shares nothing with the library.
 
+mod calls;
 pub mod devices;
 pub mod files;
 pub mod ideals;

@@ -5,15 +5,17 @@ use std::collections::BTreeMap;
 use crate::model::refusals::Told;
 use crate::planning::Answer;
 
-/// By the call and, where it was refused, the refusal's number, section, entry and reason. Of 14 the entry is not kept.
-type Seen = (&'static str, Option<Told>);
+/// What is told apart: the number of a refusal, with the entry for 13, with section and reason for 14; 0 for a granted call.
+type Kind = [u64; 3];
+
+const GRANTED: Kind = [0; 3];
 
 #[derive(Default)]
 pub struct Tally {
-    seen: BTreeMap<Seen, usize>,
+    seen: BTreeMap<(&'static str, Kind), usize>,
 }
 
-/// What each call must have been refused with at least once: docs/REFUSALS.md, *Order of the checks*.
+/// What each call must be refused with at least once: docs/REFUSALS.md, *Order of the checks*.
 const DUE: [(&str, &[u64]); 14] = [
     ("new", &[1]),
     ("add", &[2, 1]),
@@ -31,85 +33,78 @@ const DUE: [(&str, &[u64]); 14] = [
     ("write", &[15]),
 ];
 
-/// The contents entries that a file may be refused for with 13, and the sections and reasons with 14.
-const DUE_ENTRIES: [u64; 3] = [0, 1, 2];
-const DUE_REASONS: [(u64, u64); 5] = [(1, 1), (2, 3), (2, 4), (2, 5), (3, 6)];
+/// And a load with each contents entry, and each reason of each section.
+const DUE_OF_LOAD: [Kind; 8] = [
+    [13, 0, 0],
+    [13, 1, 0],
+    [13, 2, 0],
+    [14, 1, 1],
+    [14, 2, 3],
+    [14, 2, 4],
+    [14, 2, 5],
+    [14, 3, 6],
+];
 
 impl Tally {
     pub fn note<T>(&mut self, call: &'static str, answer: &Answer<T>) {
-        let told = answer.as_ref().err().map(|&told| match told.number {
-            14 => Told { entry: 0, ..told },
-            _ => told,
-        });
-        *self.seen.entry((call, told)).or_default() += 1;
+        let kind = match *answer {
+            Ok(_) => GRANTED,
+            Err(Told {
+                number: 13, entry, ..
+            }) => [13, entry, 0],
+            Err(Told {
+                number: 14,
+                section,
+                reason,
+                ..
+            }) => [14, section, reason],
+            Err(Told { number, .. }) => [number, 0, 0],
+        };
+        *self.seen.entry((call, kind)).or_default() += 1;
     }
 
     pub fn granted(&self, call: &'static str) -> usize {
-        self.count((call, None))
+        self.seen.get(&(call, GRANTED)).copied().unwrap_or(0)
     }
 
     /// How many calls were made.
-    pub fn all(&self) -> usize {
+    pub fn calls(&self) -> usize {
         self.seen.values().sum()
     }
 
-    fn count(&self, seen: Seen) -> usize {
-        self.seen.get(&seen).copied().unwrap_or(0)
-    }
-
-    /// What must be seen, with how often it was.
-    fn due(&self) -> Vec<(String, usize)> {
-        let mut due = Vec::new();
-        let mut see = |name: String, seen| due.push((name, self.count(seen)));
-        for (call, numbers) in DUE {
-            see(format!("{call} granted"), (call, None));
-            for &number in numbers {
-                see(
-                    format!("{call} {number}"),
-                    (call, Some(told(number, 0, 0, 0))),
-                );
-            }
-        }
-        for entry in DUE_ENTRIES {
-            see(
-                format!("load 13 {entry}"),
-                ("load", Some(told(13, 0, entry, 0))),
-            );
-        }
-        for (section, reason) in DUE_REASONS {
-            see(
-                format!("load 14 {section} _ {reason}"),
-                ("load", Some(told(14, section, 0, reason))),
-            );
-        }
-        due
-    }
-
-    /// Each call's grants and refusals with how often they were seen, or what was never seen.
-    pub fn summary(&self) -> Result<String, String> {
-        let due = self.due();
-        let never: Vec<&str> = due
-            .iter()
-            .filter(|(_, count)| *count == 0)
-            .map(|(name, _)| name.as_str())
-            .collect();
-        if never.is_empty() {
-            Ok(due
+    /// What must be seen and never was.
+    pub fn missing(&self) -> Vec<String> {
+        let plain = DUE.iter().flat_map(|&(call, numbers)| {
+            numbers
                 .iter()
-                .map(|(name, count)| format!("{name}: {count}"))
-                .collect::<Vec<_>>()
-                .join("; "))
-        } else {
-            Err(never.join("; "))
+                .map(move |&number| (call, [number, 0, 0]))
+                .chain([(call, GRANTED)])
+        });
+        plain
+            .chain(DUE_OF_LOAD.map(|kind| ("load", kind)))
+            .filter(|due| !self.seen.contains_key(due))
+            .map(|(call, kind)| format!("{call} {}", shown(kind)))
+            .collect()
+    }
+
+    /// How often each refusal was seen, whichever call it came from.
+    pub fn refusals(&self) -> String {
+        let mut refusals: BTreeMap<Kind, usize> = BTreeMap::new();
+        for (&(_, kind), count) in self.seen.iter().filter(|((_, kind), _)| *kind != GRANTED) {
+            *refusals.entry(kind).or_default() += count;
         }
+        let each = refusals
+            .iter()
+            .map(|(&kind, count)| format!("{} x {count}", shown(kind)));
+        each.collect::<Vec<_>>().join(", ")
     }
 }
 
-fn told(number: u64, section: u64, entry: u64, reason: u64) -> Told {
-    Told {
-        number,
-        section,
-        entry,
-        reason,
+fn shown(kind: Kind) -> String {
+    match kind {
+        GRANTED => "granted".into(),
+        [13, entry, _] => format!("13/{entry}"),
+        [14, section, reason] => format!("14/{section}/{reason}"),
+        [number, _, _] => number.to_string(),
     }
 }

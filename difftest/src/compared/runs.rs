@@ -2,8 +2,9 @@
 
 use super::SCALES;
 use super::step::Both;
-use crate::drawn::calls::{Call, call, limit};
+use crate::drawn::calls::Call;
 use crate::drawn::draws::Draws;
+use crate::drawn::next::{limit, next_call};
 use crate::drawn::sheets::sheet;
 use crate::tally::Tally;
 
@@ -18,7 +19,7 @@ pub fn case(draws: &mut Draws, number: usize, tally: &mut Tally) {
         both.step(draws, Call::Load(file)).expect("a good file");
     }
     for _ in 0..CALLS {
-        let call = call(draws, &both.model);
+        let call = next_call(draws, &both.model);
         let _ = both.step(draws, call);
     }
 }

@@ -2,7 +2,8 @@
 
 use crate::drawn::calls::{Call, Granted};
 use crate::drawn::draws::Draws;
-use crate::drawn::questions::{Questions, Reading};
+use crate::drawn::questions::Questions;
+use crate::drawn::readings::Reading;
 use crate::library::{Controlling, controller};
 use crate::model::devices::Kind;
 use crate::model::planners::Planner;

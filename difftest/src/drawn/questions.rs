@@ -1,12 +1,11 @@
-//! Drawn questions to a planner, and all that it answers to them.
+//! Drawn questions to a planner.
 
-use super::calls::{far_number, number};
 use super::draws::Draws;
+use super::next::{far_number, number};
+use super::readings::{Reading, Written};
 use crate::model::limits::{LONGEST_FILE, MOST_TOLD};
 use crate::model::planners::Planner;
-use crate::model::scales::Rating;
-use crate::planning::{Answer, Planning, ToldStage};
-use crate::tally::Tally;
+use crate::planning::{Answer, Planning};
 
 #[derive(Debug)]
 pub struct Questions {
@@ -17,19 +16,6 @@ pub struct Questions {
     page_rooms: Vec<usize>,
     file_rooms: Vec<usize>,
     filler: u8,
-}
-
-/// An answer to `page` or `write` and the buffer after it.
-type Written = (Answer<usize>, Vec<u8>);
-
-#[derive(PartialEq, Debug)]
-pub struct Reading {
-    rating: Answer<Rating>,
-    stages: Vec<Answer<ToldStage>>,
-    places: Vec<Answer<usize>>,
-    margins: Vec<Answer<i64>>,
-    pages: Vec<Written>,
-    files: Vec<Written>,
 }
 
 impl Questions {
@@ -115,25 +101,4 @@ fn rooms(draws: &mut Draws, needed: usize) -> Vec<usize> {
         draws.one_of(&[needed.saturating_sub(1), shorter]),
         draws.one_of(&[longer, longer, longer, LONGEST_FILE.max(needed)]),
     ]
-}
-
-impl Reading {
-    pub fn note(&self, tally: &mut Tally) {
-        tally.note("rating", &self.rating);
-        self.stages
-            .iter()
-            .for_each(|answer| tally.note("stage", answer));
-        self.places
-            .iter()
-            .for_each(|answer| tally.note("place", answer));
-        self.margins
-            .iter()
-            .for_each(|answer| tally.note("margin", answer));
-        self.pages
-            .iter()
-            .for_each(|(answer, _)| tally.note("page", answer));
-        self.files
-            .iter()
-            .for_each(|(answer, _)| tally.note("write", answer));
-    }
 }

@@ -3,8 +3,10 @@
 use super::answers::{Answered, CPlan, CRefusal, CStage};
 use super::lent::CChoice;
 
-/// The calls of one scale, whose ratings are of the type R. A planner is `words` times 64 bits long.
+/// The calls of one scale, whose ratings are of the type R.
 pub struct Calls<R: 'static> {
+    pub name: &'static str,
+    /// The length of a planner, in words of 64 bits.
     pub words: usize,
     pub new: unsafe extern "C" fn(*mut u64, u32) -> CRefusal,
     pub add: unsafe extern "C" fn(*mut u64, u32, u32, u32, u32) -> Answered<usize>,
@@ -79,6 +81,7 @@ macro_rules! scale {
                 fn write(_: *mut u64, buffer: *mut u8, length: usize) -> Answered<usize>;
             }
             Calls {
+                name: $name,
                 words: $words,
                 new,
                 add,
