@@ -1,5 +1,6 @@
 //! The comparisons, each of many cases.
 
+mod bytes;
 mod files;
 mod runs;
 mod step;
@@ -16,11 +17,16 @@ pub struct Comparison {
     pub case: fn(&mut Draws, usize, &mut Tally),
 }
 
-pub const COMPARISONS: [Comparison; 3] = [
+pub const COMPARISONS: [Comparison; 4] = [
     Comparison {
         name: "files",
         cases: 20_000,
         case: files::case,
+    },
+    Comparison {
+        name: "bytes",
+        cases: bytes::CASES,
+        case: bytes::case,
     },
     Comparison {
         name: "runs",

@@ -6,6 +6,7 @@ mod header;
 mod lent;
 mod planning;
 mod ratings;
+mod tables;
 
 use std::fmt::Debug;
 
@@ -38,6 +39,8 @@ pub fn check() {
 
 /// What is asked of the library alone.
 pub trait Controlling: Planning {
+    /// A copy of all its bytes is a planner of its own.
+    fn copied(&self) -> Box<dyn Controlling>;
     /// To another place of memory; nothing is left where it was.
     fn move_away(&mut self);
 }
@@ -71,6 +74,14 @@ impl<R: CRating> Controller<R> {
 }
 
 impl<R: CRating> Controlling for Controller<R> {
+    fn copied(&self) -> Box<dyn Controlling> {
+        let planner = Lent::of(self.planner.kept());
+        Box::new(Controller {
+            calls: self.calls,
+            planner,
+        })
+    }
+
     fn move_away(&mut self) {
         let mut left = std::mem::replace(&mut self.planner, Lent::of(&[]));
         self.planner = Lent::of(left.kept());

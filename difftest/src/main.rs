@@ -23,20 +23,23 @@ fn main() -> ExitCode {
     library::check();
     let mut tally = Tally::default();
     let arguments: Vec<String> = std::env::args().skip(1).collect();
-    match arguments.as_slice() {
-        [] => ended(are_alike(&mut tally) && is_complete(&tally)),
-        [name, case] => match compared(name).zip(case.parse().ok()) {
-            Some((comparison, case)) => ended(is_alike(comparison, case, &mut tally)),
-            None => ended(false),
-        },
-        _ => ended(false),
+    if arguments.is_empty() {
+        return ended(are_alike(&mut tally) && is_complete(&tally));
     }
+    let Some((comparison, case)) = case_of(&arguments) else {
+        eprintln!("for a single case: the name of a comparison and the number of the case");
+        return ExitCode::FAILURE;
+    };
+    ended(is_alike(comparison, case, &mut tally))
 }
 
-fn compared(name: &str) -> Option<&'static Comparison> {
-    COMPARISONS
+fn case_of(arguments: &[String]) -> Option<(&'static Comparison, usize)> {
+    let [name, case] = arguments else { return None };
+    let comparison = COMPARISONS
         .iter()
-        .find(|comparison| comparison.name == name)
+        .find(|comparison| comparison.name == name)?;
+    let case = case.parse().ok().filter(|&case| case < comparison.cases)?;
+    Some((comparison, case))
 }
 
 /// Stops at the first difference.

@@ -38,6 +38,7 @@ impl Both<'_> {
 
     /// Makes a call on both, and holds the answers, what was lent, and all that both tell afterwards against each other.
     pub fn step(&mut self, draws: &mut Draws, call: Call) -> Answer<Granted> {
+        let copy = draws.is_one_in(16).then(|| self.library.copied());
         let (mut ours, mut models) = (call.clone(), call);
         let (answer, due) = (ours.made(&mut *self.library), models.made(&mut self.model));
         self.tally.note(ours.name(), &answer);
@@ -50,16 +51,23 @@ impl Both<'_> {
             same_tables(found, due);
         }
         if answer.is_err() {
-            assert_eq!(
-                self.questions.asked(&mut *self.library),
-                self.reading,
-                "what changed with {ours:?}, which was refused"
+            let reading = self.questions.asked(&mut *self.library);
+            reading.must_be(
+                &self.reading,
+                format_args!("after {ours:?}, which is refused"),
+            );
+        }
+        if let Some(mut copy) = copy {
+            let reading = self.questions.asked(&mut *copy);
+            reading.must_be(
+                &self.reading,
+                format_args!("of a copy from before {ours:?}"),
             );
         }
         if draws.is_one_in(16) {
             self.library.move_away();
         }
-        self.ask(draws);
+        self.ask(draws, &ours);
         if let Ok(Granted::Plan(plan)) = answer {
             let stages = self.stages(plan.stages);
             assert_eq!(
@@ -71,15 +79,14 @@ impl Both<'_> {
         answer
     }
 
-    fn ask(&mut self, draws: &mut Draws) {
+    fn ask(&mut self, draws: &mut Draws, last: &Call) {
         self.questions = Questions::about(draws, &self.model);
         self.reading = self.questions.asked(&mut *self.library);
         self.reading.note(self.tally);
-        assert_eq!(
-            self.reading,
-            self.questions.asked(&mut self.model),
-            "{:?}",
-            self.questions
+        let due = self.questions.asked(&mut self.model);
+        self.reading.must_be(
+            &due,
+            format_args!("after {last:?}, by {:?}", self.questions),
         );
     }
 

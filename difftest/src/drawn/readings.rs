@@ -1,5 +1,7 @@
 //! All that a planner answers to questions.
 
+use std::fmt::Arguments;
+
 use crate::model::scales::Rating;
 use crate::planning::{Answer, ToldStage};
 use crate::tally::Tally;
@@ -7,7 +9,6 @@ use crate::tally::Tally;
 /// An answer to `page` or `write` and the buffer after it.
 pub type Written = (Answer<usize>, Vec<u8>);
 
-#[derive(PartialEq, Debug)]
 pub struct Reading {
     pub rating: Answer<Rating>,
     pub stages: Vec<Answer<ToldStage>>,
@@ -18,6 +19,16 @@ pub struct Reading {
 }
 
 impl Reading {
+    /// Stops at the first answer that is not as it is due.
+    pub fn must_be(&self, due: &Reading, when: Arguments) {
+        assert_eq!(self.rating, due.rating, "the rating {when}");
+        assert_eq!(self.stages, due.stages, "the stages {when}");
+        assert_eq!(self.places, due.places, "the places {when}");
+        assert_eq!(self.margins, due.margins, "the margins {when}");
+        assert_eq!(self.pages, due.pages, "the pages {when}");
+        assert_eq!(self.files, due.files, "the files {when}");
+    }
+
     pub fn note(&self, tally: &mut Tally) {
         tally.note("rating", &self.rating);
         self.stages

@@ -61,9 +61,20 @@ pub fn operator(draws: &mut Draws) -> Operator {
     }
 }
 
+/// Without edges; some sheets have all figures at the limit.
 pub fn loose(draws: &mut Draws, operators: usize) -> Sheet {
+    let most = Operator {
+        acc: MOST_FIGURE,
+        cpu: MOST_FIGURE,
+        size: MOST_FIGURE,
+        link: MOST_FIGURE,
+    };
+    let is_heavy = draws.is_one_in(16);
+    let operators = (0..operators)
+        .map(|_| if is_heavy { most } else { operator(draws) })
+        .collect();
     Sheet {
-        operators: (0..operators).map(|_| operator(draws)).collect(),
+        operators,
         ..Sheet::default()
     }
 }

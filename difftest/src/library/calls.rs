@@ -1,7 +1,7 @@
 //! The functions of include/controller.h, for each scale.
 
 use super::answers::{Answered, CPlan, CRefusal, CStage};
-use super::lent::CChoice;
+use super::tables::CChoice;
 
 /// The calls of one scale, whose ratings are of the type R.
 pub struct Calls<R: 'static> {

@@ -1,8 +1,9 @@
 //! A planner of the library as what it shares with the model.
 
 use super::answers::{CPlan, CStage};
-use super::lent::{Lent, LentTables};
+use super::lent::Lent;
 use super::ratings::CRating;
+use super::tables::LentTables;
 use super::{Controller, narrow};
 use crate::model::scales::Rating;
 use crate::model::sheets::Operator;

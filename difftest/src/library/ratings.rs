@@ -1,11 +1,10 @@
 //! Ratings as they cross to C.
 
-use std::fmt::Debug;
-
+use super::lent::Lendable;
 use super::narrow;
 use crate::model::scales::Rating;
 
-pub trait CRating: Copy + Default + PartialEq + Debug {
+pub trait CRating: Lendable + Default {
     fn of(rating: Rating) -> Self;
     fn rating(self) -> Rating;
 }

@@ -1,5 +1,7 @@
 //! Why a call is refused: docs/REFUSALS.md.
 
+use std::fmt;
+
 #[derive(Clone, Copy, PartialEq, Eq, Debug)]
 pub enum Refusal {
     AboveLimit,
@@ -36,12 +38,27 @@ pub enum Reason {
 }
 
 /// A refusal as it is told: its number, and its values, which are 0 where it has none.
-#[derive(Clone, Copy, PartialEq, Eq, PartialOrd, Ord, Debug)]
+#[derive(Clone, Copy, PartialEq, Eq)]
 pub struct Told {
     pub number: u64,
     pub section: u64,
     pub entry: u64,
     pub reason: u64,
+}
+
+impl fmt::Debug for Told {
+    fn fmt(&self, to: &mut fmt::Formatter<'_>) -> fmt::Result {
+        let Told {
+            number,
+            section,
+            entry,
+            reason,
+        } = self;
+        write!(
+            to,
+            "refused {number} (section {section}, entry {entry}, reason {reason})"
+        )
+    }
 }
 
 impl Reason {
