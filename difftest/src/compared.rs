@@ -41,4 +41,4 @@ pub const COMPARISONS: [Comparison; 4] = [
 ];
 
 /// Those that the header offers.
-const SCALES: [Scale; 1] = [Scale::Peak];
+const SCALES: [Scale; 3] = [Scale::Peak, Scale::Line, Scale::Pair];

@@ -14,7 +14,7 @@ use crate::model::limits::MOST_TOLD;
 use crate::model::refusals::Refusal;
 use crate::model::scales::Scale;
 use crate::planning::Planning;
-use calls::{Calls, PEAK};
+use calls::{Calls, LINE, PAIR, PEAK};
 use lent::Lent;
 use ratings::CRating;
 
@@ -28,13 +28,18 @@ pub struct Controller<R: 'static> {
 pub fn controller(scale: Scale) -> Box<dyn Controlling> {
     match scale {
         Scale::Peak => Box::new(Controller::of(&PEAK)),
-        Scale::Line | Scale::Pair => todo!(),
+        Scale::Line => Box::new(Controller::of(&LINE)),
+        Scale::Pair => Box::new(Controller::of(&PAIR)),
     }
 }
 
 /// Stops where the header is not as it is called here.
 pub fn check() {
-    header::check(&[(PEAK.name, PEAK.words)]);
+    header::check(&[
+        (PEAK.name, PEAK.words),
+        (LINE.name, LINE.words),
+        (PAIR.name, PAIR.words),
+    ]);
 }
 
 /// What is asked of the library alone.

@@ -12,13 +12,16 @@ pub const CASES: usize = 22 + 3 * 16 + 2 * 2;
 
 pub fn case(draws: &mut Draws, number: usize, tally: &mut Tally) {
     let file = small().file();
-    let mut both = Both::new(draws, SCALES[number % SCALES.len()], tally);
-    both.step(draws, Call::Load(file[..number].to_vec()))
-        .expect_err("a file that is cut");
-    for byte in 0..=u8::MAX {
-        let mut changed = file.clone();
-        changed[number] = byte;
-        let _ = both.step(draws, Call::Load(changed));
+    for scale in SCALES {
+        let mut both = Both::new(draws, scale, tally);
+        let cut = file[..number].to_vec();
+        both.step(draws, Call::Load(cut))
+            .expect_err("a file that is cut");
+        for byte in 0..=u8::MAX {
+            let mut changed = file.clone();
+            changed[number] = byte;
+            let _ = both.step(draws, Call::Load(changed));
+        }
     }
 }
 

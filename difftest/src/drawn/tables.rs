@@ -43,12 +43,19 @@ fn around(draws: &mut Draws, needed: usize) -> usize {
     }
 }
 
-/// Of the width that ratings of this scale have.
+/// Any that a place of this scale's table may hold.
 fn rating(draws: &mut Draws, scale: Scale) -> Rating {
-    let [ticks, link] = [(); 2].map(|()| draws.number() >> 32);
-    Rating {
-        ticks,
-        link: if scale == Scale::Pair { link } else { 0 },
+    let [ticks, link] = [(); 2].map(|()| draws.number());
+    match scale {
+        Scale::Peak => Rating {
+            ticks: ticks >> 32,
+            link: 0,
+        },
+        Scale::Line => Rating { ticks, link: 0 },
+        Scale::Pair => Rating {
+            ticks: ticks >> 32,
+            link: link >> 32,
+        },
     }
 }
 

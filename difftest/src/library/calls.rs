@@ -1,6 +1,7 @@
 //! The functions of include/controller.h, for each scale.
 
 use super::answers::{Answered, CPlan, CRefusal, CStage};
+use super::ratings::TicksAndLink;
 use super::tables::CChoice;
 
 /// The calls of one scale, whose ratings are of the type R.
@@ -103,3 +104,5 @@ macro_rules! scale {
 }
 
 scale!(PEAK, "peak", 230, u32);
+scale!(LINE, "line", 230, u64);
+scale!(PAIR, "pair", 230, TicksAndLink);
