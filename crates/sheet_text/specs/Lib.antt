@@ -1,0 +1,5 @@
+pub mod Causes
+pub mod Fields
+pub mod Numbers
+pub mod Items
+pub mod Reading
