@@ -1,11 +1,10 @@
 -- The fields of bytes, by their first one.
-use Rattle.std.proofs.Common.{◌≡◌, ℕ, zero, suc, ◌+◌, ◌-◌, ◌<◌, ◌≤◌, Bool, true, false, not, cond, ltb, List, [], ◌∷◌, ◌++◌, length, take, drop, get_or, filter, Option, Some, None, unwrap_or, refl, sym, ap, ◌∙◌, subst, inl, inr, arith}
+use Rattle.std.proofs.Common.{◌≡◌, ℕ, zero, suc, ◌+◌, ◌-◌, ◌<◌, ◌≤◌, Bool, true, false, not, cond, ltb, List, [], ◌∷◌, length, take, drop, get_or, filter, Option, Some, None, unwrap_or, refl, sym, ap, ◌∙◌, subst, inl, inr, arith}
 use Rattle.std.specs.List.{All, slice_split, position_or_len}
 use Rattle.std.proofs.Math.ListN.{drop_of_length-le}
 use Rattle.std.proofs.Math.Seq.{drop-cons}
 use Rattle.std.proofs.lemmas.Bool.{lt-ltb, ltb-true, ltb-false, not-false, not-true, cases_Bool, cases_lt, cases_eq, both_ways, cond-true}
 use Rattle.std.proofs.lemmas.List.{get_or-drop, take_all, length-drop, length-take}
-use Rattle.std.proofs.lemmas.List.Folds.{length-prefix_len}
 use Rattle.std.proofs.lemmas.List.Splits.{slice_split-cons_yes, slice_split_none, slice_split_first}
 use Rattle.std.proofs.lemmas.List.Sums.{prefix_len-le-length, fails_before_first, passes_at_first}
 use Rattle.sheet_text.specs.Fields.{is_blank, fields}
@@ -37,7 +36,7 @@ module _ (p : ℕ → Bool) (bs : List ℕ) where
   ]
 
 -- a part that is not empty is a field
-kept : (x : List ℕ) (xs : List (List ℕ)) → 0 < length x → filter (λ f. ltb 0 (length f)) (x ∷ xs) ≡ x ∷ filter (λ f. ltb 0 (length f)) xs
+pub kept : (x : List ℕ) (xs : List (List ℕ)) → 0 < length x → filter (λ f. ltb 0 (length f)) (x ∷ xs) ≡ x ∷ filter (λ f. ltb 0 (length f)) xs
 kept x xs some = cond-true (ltb 0 (length x)) (x ∷ filter (λ f. ltb 0 (length f)) xs) (filter (λ f. ltb 0 (length f)) xs) (lt-ltb 0 (length x) some)
 
 pub fields_blank : (b : ℕ) (bs : List ℕ) → is_blank b ≡ true → fields (b ∷ bs) ≡ fields bs
@@ -78,12 +77,12 @@ module _ (bs : List ℕ) (some : 0 < length bs) (first : is_blank (get_or bs 0 0
   unfolding fields
   fields_first = elim (cases_lt end (length bs)) [
     | inl less ↦
-      ap (filter (λ f. ltb 0 (length f))) (slice_split_first is_blank bs 0 less)
-      ∙ kept (take end bs) (slice_split is_blank (drop (end + 1) bs)) (omega (arith, length-take end bs, not_at_once less))
-      ∙ ap (λ fs. take end bs ∷ fs) (sym (ap fields (from_end less) ∙ fields_blank (get_or bs end 0) (drop (end + 1) bs) (passes_at_first is_blank bs 0 less)))
+        ap (filter (λ f. ltb 0 (length f))) (slice_split_first is_blank bs 0 less)
+        ∙ kept (take end bs) (slice_split is_blank (drop (end + 1) bs)) (omega (arith, length-take end bs, not_at_once less))
+        ∙ ap (λ fs. take end bs ∷ fs) (sym (ap fields (from_end less) ∙ fields_blank (get_or bs end 0) (drop (end + 1) bs) (passes_at_first is_blank bs 0 less)))
     | inr more ↦
-      fields_whole bs some (λ i d within. fails_before_first is_blank bs i d (omega arith))
-      ∙ ap (λ x. x ∷ []) (sym (take_all end bs more)) ∙ ap (λ x. take end bs ∷ fields x) (sym (drop_of_length-le bs more))
+        fields_whole bs some (λ i d within. fails_before_first is_blank bs i d (omega arith))
+        ∙ ap (λ x. x ∷ []) (sym (take_all end bs more)) ∙ ap (λ x. take end bs ∷ fields x) (sym (drop_of_length-le bs more))
   ]
 
 module _ (bs xs : List ℕ) (o q : Option ℕ) (s : ℕ) (starts : o ≡ place (λ b. not (is_blank b)) bs) (found : o ≡ Some s) (left : xs ≡ take (length bs - s) (drop s bs)) (ends : q ≡ place is_blank xs) where

@@ -3,3 +3,4 @@ pub mod Fields
 pub mod Numbers
 pub mod Items
 pub mod Reading
+pub mod Texts

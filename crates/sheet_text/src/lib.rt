@@ -6,7 +6,9 @@ mod fields;
 mod items;
 mod numbers;
 mod reads;
+mod texts;
 
 pub use causes::{BadLine, Cause, Slip};
 pub use items::Item;
 pub use reads::read;
+pub use texts::text;

@@ -1,8 +1,8 @@
-use Rattle.std.proofs.Common.{◌≡◌, not, sym, ap, ◌∙◌, ◌-◌, take, drop, length, rules, refl, arith}
+use Rattle.std.proofs.Common.{◌≡◌, not, ◌-◌, take, drop, length, rules, refl}
 use borrow.Author.Tests.{tests}
 use Rattle.std.proofs.lemmas.Iterator.{YieldsList-from_slice}
 use Rattle.std.proofs.lemmas.Iterator.Search.{position_from_yields_List}
-use Rattle.sheet_text.specs.Fields.{is_blank, fields}
+use Rattle.sheet_text.specs.Fields.{is_blank}
 use Rattle.sheet_text.proofs.Pieces.{place, fields_split, fields_blanks}
 use Rattle.sheet_text.proofs.fields.split_field.Goals as goal
 

@@ -1,4 +1,4 @@
-use Rattle.std.proofs.Common.{ℕ, List, ◌≡◌, ◌==◌, ◌∙◌, ◌+◌, [], ◌∷◌, map, Ok, Err, sym, ap, rules}
+use Rattle.std.proofs.Common.{ℕ, List, ◌==◌, ◌∙◌, ◌+◌, [], ◌∷◌, map, Ok, Err, sym, ap, rules}
 use Rattle.std.proofs.lemmas.List.{map-append}
 use Rattle.std.specs.Borrow.{Bor}
 use borrow.Author.Tests.{tests}
