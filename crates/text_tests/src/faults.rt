@@ -48,7 +48,10 @@ fn surplus_numbers(rt: HostRuntime) {
     assert_eq!(rt; fault(b"op 1 2 3 4 x"), slip(1, Slip::TooManyNumbers));
     assert_eq!(rt; fault(b"edge 0 1 2"), slip(1, Slip::TooManyNumbers));
     assert_eq!(rt; fault(b"count 1 2 3"), slip(1, Slip::TooManyNumbers));
-    assert_eq!(rt; fault(b"count 1 2\rcount 1 2"), slip(1, Slip::TooManyNumbers));
+    assert_eq!(rt;
+        fault(b"count 1 2\rcount 1 2"),
+        slip(1, Slip::TooManyNumbers)
+    );
 }
 
 #[test]
@@ -64,16 +67,31 @@ fn fields_that_are_no_number(rt: HostRuntime) {
 // Digits alone are a number, however many; it may be too large for any place. Of both, that it is none is told.
 #[test]
 fn long_numbers(rt: HostRuntime) {
-    assert_eq!(rt; fault(b"op 4294967295 2 3 4"), refused(1, Refusal::AboveLimit));
-    assert_eq!(rt; fault(b"op 4294967296 2 3 4"), slip(1, Slip::NumberTooLarge));
-    assert_eq!(rt; fault(b"op 9999999999 2 3 4"), slip(1, Slip::NumberTooLarge));
+    assert_eq!(rt;
+        fault(b"op 4294967295 2 3 4"),
+        refused(1, Refusal::AboveLimit)
+    );
+    assert_eq!(rt;
+        fault(b"op 4294967296 2 3 4"),
+        slip(1, Slip::NumberTooLarge)
+    );
+    assert_eq!(rt;
+        fault(b"op 9999999999 2 3 4"),
+        slip(1, Slip::NumberTooLarge)
+    );
     let thirty = b"op 1 2 3 123456789012345678901234567890";
     assert_eq!(rt; fault(thirty), slip(1, Slip::NumberTooLarge));
     let thirty_and_a_letter = b"op 1 2 3 123456789012345678901234567890x";
     assert_eq!(rt; fault(thirty_and_a_letter), slip(1, Slip::NotANumber));
     assert_eq!(rt; fault(b"op 1 2 3 000000000000000000000000000004"), None);
-    assert_eq!(rt; fault(b"count 4294967295 0"), refused(1, Refusal::CountAboveLimit));
-    assert_eq!(rt; fault(b"edge 4294967295 0"), refused(1, Refusal::NoOperator));
+    assert_eq!(rt;
+        fault(b"count 4294967295 0"),
+        refused(1, Refusal::CountAboveLimit)
+    );
+    assert_eq!(rt;
+        fault(b"edge 4294967295 0"),
+        refused(1, Refusal::NoOperator)
+    );
 }
 
 // The fields are read from the left, and the sheet is asked once all of a line is read.
@@ -83,7 +101,10 @@ fn what_comes_first(rt: HostRuntime) {
     assert_eq!(rt; fault(b"op 99999999999 x"), slip(1, Slip::NumberTooLarge));
     assert_eq!(rt; fault(b"op 1000001 2"), slip(1, Slip::TooFewNumbers));
     assert_eq!(rt; fault(b"edge 5 5 5"), slip(1, Slip::TooManyNumbers));
-    assert_eq!(rt; fault(b"op 1 2 3 4\nedge 0 1\nwhat"), refused(2, Refusal::NoOperator));
+    assert_eq!(rt;
+        fault(b"op 1 2 3 4\nedge 0 1\nwhat"),
+        refused(2, Refusal::NoOperator)
+    );
     assert_eq!(rt; fault(b"what\nedge 0 1"), slip(1, Slip::UnknownItem));
 }
 

@@ -7,9 +7,16 @@ use text_files::{MOST_FILE, describe_file, make_file};
 #[test]
 fn a_file_in_the_buffer(rt: HostRuntime) -> Result<(), Fail> {
     let mut buffer = [0xaa; MOST_FILE];
-    let length = make_file(b"op 1 2 3 4\nop 5 6 7 8\nedge 0 1\ncount 2 1\n", &mut buffer)?;
+    let length = make_file(
+        b"op 1 2 3 4\nop 5 6 7 8\nedge 0 1\ncount 2 1\n",
+        &mut buffer,
+    )?;
     assert_eq!(rt; length, 56);
-    assert!(rt; buffer.starts_with(b"WEFT\x03\x01\x14\x00\x20\x00\x02\x34\x00\x02\x00\x03\x36\x00\x02\x00\x01"));
+    assert!(rt;
+        buffer.starts_with(
+            b"WEFT\x03\x01\x14\x00\x20\x00\x02\x34\x00\x02\x00\x03\x36\x00\x02\x00\x01"
+        )
+    );
     assert!(rt; buffer[52..].starts_with(b"\x00\x01\x02\x01\xaa"));
     Ok(())
 }
@@ -18,7 +25,10 @@ fn a_file_in_the_buffer(rt: HostRuntime) -> Result<(), Fail> {
 fn a_bad_line_leaves_the_buffer(rt: HostRuntime) {
     let mut buffer = [0xaa; MOST_FILE];
     let made = make_file(b"op 1 2 3 4\ncount 2 9\n", &mut buffer);
-    assert_eq!(rt; made.map_err(|bad| (bad.line, bad.cause)), Err((2, Cause::Refused(Refusal::CountAboveLimit))));
+    assert_eq!(rt;
+        made.map_err(|bad| (bad.line, bad.cause)),
+        Err((2, Cause::Refused(Refusal::CountAboveLimit)))
+    );
     assert!(rt; buffer.iter().all(|byte| *byte == 0xaa));
 }
 
@@ -27,7 +37,10 @@ fn the_text_of_a_file(rt: HostRuntime) -> Result<(), Fail> {
     let mut buffer = [0; MOST_FILE];
     let length = make_file(b"op 1 2 3 4 # one\nop 5 6 7 8\nedge 0 1", &mut buffer)?;
     let told = describe_file(rt.alloc(), &buffer[..length.min(MOST_FILE)])?;
-    assert_eq!(rt; told.as_str(), "op 1 2 3 4\nop 5 6 7 8\nedge 0 1\ncount 0 0\n");
+    assert_eq!(rt;
+        told.as_str(),
+        "op 1 2 3 4\nop 5 6 7 8\nedge 0 1\ncount 0 0\n"
+    );
     Ok(())
 }
 

@@ -19,7 +19,8 @@ fn a_stage_of_each_kind(rt: HostRuntime) -> Result<(), Fail> {
 fn no_devices(rt: HostRuntime) -> Result<(), Fail> {
     let sheet = read(b"op 10 20 1 1")?;
     let graph = draw(rt.alloc(), &sheet)?;
-    let due = "digraph sheet {\nlabel=\"refused 9\";\n0 [label=\"0\\nacc 10 cpu 20\\nsize 1 link 1\"];\n}\n";
+    let due =
+        "digraph sheet {\nlabel=\"refused 9\";\n0 [label=\"0\\nacc 10 cpu 20\\nsize 1 link 1\"];\n}\n";
     assert_eq!(rt; graph.as_str(), due);
     Ok(())
 }
@@ -34,16 +35,30 @@ fn no_operators(rt: HostRuntime) -> Result<(), Fail> {
 // Operators without edges have 2 to their count ideals: of nine as many as there is room for, with eight cells each.
 #[test]
 fn too_many_ideals_and_too_few_cells(rt: HostRuntime) -> Result<(), Fail> {
-    let nine = b"op 1 2 1 1\nop 1 2 1 1\nop 1 2 1 1\nop 1 2 1 1\nop 1 2 1 1\nop 1 2 1 1\nop 1 2 1 1\nop 1 2 1 1\nop 1 2 1 1\ncount 1 3";
+    let nine =
+        b"op 1 2 1 1\nop 1 2 1 1\nop 1 2 1 1\nop 1 2 1 1\nop 1 2 1 1\nop 1 2 1 1\nop 1 2 1 1\nop 1 2 1 1\nop 1 2 1 1\ncount 1 3";
     let mut sheet = read(nine)?;
     let whole = draw(rt.alloc(), &sheet)?;
-    assert!(rt; whole.as_str().starts_with("digraph sheet {\nsubgraph cluster_0 {\n"));
+    assert!(rt;
+        whole
+            .as_str()
+            .starts_with("digraph sheet {\nsubgraph cluster_0 {\n")
+    );
     sheet.count(2, 2)?;
     let cells = draw(rt.alloc(), &sheet)?;
-    assert!(rt; cells.as_str().starts_with("digraph sheet {\nlabel=\"refused 8\";\n0 ["));
-    let ten = b"op 1 2 1 1\nop 1 2 1 1\nop 1 2 1 1\nop 1 2 1 1\nop 1 2 1 1\nop 1 2 1 1\nop 1 2 1 1\nop 1 2 1 1\nop 1 2 1 1\nop 1 2 1 1\ncount 1 3";
+    assert!(rt;
+        cells
+            .as_str()
+            .starts_with("digraph sheet {\nlabel=\"refused 8\";\n0 [")
+    );
+    let ten =
+        b"op 1 2 1 1\nop 1 2 1 1\nop 1 2 1 1\nop 1 2 1 1\nop 1 2 1 1\nop 1 2 1 1\nop 1 2 1 1\nop 1 2 1 1\nop 1 2 1 1\nop 1 2 1 1\ncount 1 3";
     let ideals = draw(rt.alloc(), &read(ten)?)?;
-    assert!(rt; ideals.as_str().starts_with("digraph sheet {\nlabel=\"refused 7\";\n0 ["));
+    assert!(rt;
+        ideals
+            .as_str()
+            .starts_with("digraph sheet {\nlabel=\"refused 7\";\n0 [")
+    );
     Ok(())
 }
 

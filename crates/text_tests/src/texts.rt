@@ -7,10 +7,12 @@ use std::test::Fail;
 
 #[test]
 fn the_text_of_a_sheet(rt: HostRuntime) -> Result<(), Fail> {
-    let given = b"count 1 2 # first\n\nop 7 0 1000000 10\r\nop 3 4 5 6\nop 1 1 1 1\nedge 1 2\nedge 0 2\nedge 00 1";
+    let given =
+        b"count 1 2 # first\n\nop 7 0 1000000 10\r\nop 3 4 5 6\nop 1 1 1 1\nedge 1 2\nedge 0 2\nedge 00 1";
     let sheet = read(given)?;
     let told = text(rt.alloc(), &sheet)?;
-    let due = "op 7 0 1000000 10\nop 3 4 5 6\nop 1 1 1 1\nedge 0 1\nedge 0 2\nedge 1 2\ncount 1 2\n";
+    let due =
+        "op 7 0 1000000 10\nop 3 4 5 6\nop 1 1 1 1\nedge 0 1\nedge 0 2\nedge 1 2\ncount 1 2\n";
     assert_eq!(rt; told.as_str(), due);
     Ok(())
 }

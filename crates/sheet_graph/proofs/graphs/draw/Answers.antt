@@ -1,5 +1,4 @@
 use Rattle.std.proofs.Common.{◌≡◌, ◌∙◌, [], ap, subst, refl, rules, IfOk, string_bytes}
-use Rattle.device.specs.declared.accelerators.Accelerator.{Accelerator}
 use Rattle.device.specs.Loads.{accelerated, processed}
 use Rattle.split.specs.Splits.{kinds}
 use Rattle.sheet.specs.Views.{net}
