@@ -1,6 +1,7 @@
 -- What a line says, by its fields.
 --   operator_of, edge_of, counts_of   the item that the numbers after its word say
---   item_of                           the item that a word and numbers say; nothing where there is no field
+--   said_by word numbers              the item that a word and the numbers after it say
+--   item_of                           the item that fields say; nothing where there is no field
 use Rattle.std.specs.Prelude.{ℕ, List, [], ◌∷◌, Option, Some, None, Result, Ok, Err, codes, if◌then◌else◌}
 use Rattle.std.specs.Str.{bytes_eq}
 use Rattle.sheet_text.specs.declared.causes.Slip.{Slip}

@@ -2,7 +2,10 @@
 --   item_refusal n i, with_item n i   what is told of the call that the item i makes of the sheet n, and where it leads if it is granted
 --   Fault               why a line is bad, a refusal by what is told of it
 --   told_cause c        the same of a cause
+--   unless_told ts n    the sheet n where nothing is told, else the refusal that ts tells
+--   after_item n r      the sheet n with the item that a line says, or its slip
 --   after_line n line   the sheet n with what the line says, or why the line is bad
+--   and_then i r f      f of the sheet that r gives, or why line i is bad
 --   after_lines i n ls  the sheet n with what the lines say, counted from i, or the first bad one with its number
 --   lines t             the lines of a text: what stands between line feeds
 --   sheet_of t          the sheet that the text t says, or its first bad line

@@ -1,5 +1,6 @@
 // The numbers of a line.
-ghost use Rattle.std.specs.Prelude.{◌≡◌, ◌+◌, ◌-◌, ◌*◌, ◌^◌, ◌≤◌, nat_lt, Some, None, if◌then◌else◌};
+ghost use Rattle.std.specs.Prelude.{◌≡◌, ◌+◌, ◌-◌, ◌*◌, ◌^◌, nat_lt, Some, None, if◌then◌else◌};
+ghost use Rattle.std.specs.Char.{IsAsciiDigit};
 ghost use Rattle.sheet_text.specs.Fields.{fields};
 ghost use Rattle.sheet_text.specs.Numbers.{number_of, next_number, no_more, Gives};
 
@@ -8,8 +9,8 @@ use crate::fields::split_field;
 
 // A number with one digit more at its end, if that fits.
 fn with_digit(number: u32, digit: u8) -> Option<u32>
-    requires { (48 ≤ digit) × (digit ≤ 57) }
-    ensures { result ≡ (if nat_lt (number * 10 + (digit - 48)) (2 ^ 32) then Some (number * 10 + (digit - 48)) else None) }
+    requires { IsAsciiDigit digit }
+    ensures { let longer = number * 10 + (digit - 48) in result ≡ (if nat_lt longer (2 ^ 32) then Some longer else None) }
 {
     let tens = number.checked_mul(10)?;
     tens.checked_add(u32::from(digit - b'0'))
