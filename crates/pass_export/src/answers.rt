@@ -1,7 +1,6 @@
-ghost use Rattle.std.specs.Prelude.{◌≡◌, length, map, take, slice_index};
-ghost use Rattle.refusals.specs.Told.{told};
+ghost use Rattle.std.specs.Prelude.{◌≡◌, ◌-◌, length, map, take, drop};
 ghost use Rattle.best_split.specs.Views.{stages_of};
-ghost use Rattle.pass_export.specs.Told.{stage_of, TellsFound, Tells};
+ghost use Rattle.pass_export.specs.Told.{stage_of, no_stages, TellsFound, TellsRefused, Tells};
 
 use best_split::{Found, Split};
 use refusals::Refusal;
@@ -14,8 +13,8 @@ pub struct StageRecord {
     pub kind: u8,
 }
 
-// What the caller is told: the number of a refusal, or 0 and then the rating of a split, how many ideals there are, and the
-// stages of the split, which are the first `count` here.
+// What the caller is told: the number of a refusal and else nothing but zeros, or 0 and then the rating of a split, how many
+// ideals there are, and the stages of the split, which are the first `count` here; zeros stand at the other places.
 #[repr(C)]
 #[derive(Clone, Copy)]
 pub struct Answer {
@@ -31,7 +30,8 @@ const BLANK: StageRecord = StageRecord { mask: 0, kind: 0 };
 
 // The stages of a split, from the first place on.
 fn records(split: &Split) -> [StageRecord; 16]
-    ensures { take (length (stages_of split.now)) (map stage_of result) ≡ stages_of split.now }
+    ensures stages { take (length (stages_of split.now)) (map stage_of result) ≡ stages_of split.now }
+    ensures others { drop (length (stages_of split.now)) (map stage_of result) ≡ no_stages (16 - length (stages_of split.now)) }
 {
     let mut records = [BLANK; 16];
     for (i, stage) in split.stages().iter().enumerate() {
@@ -59,7 +59,7 @@ impl Answer {
 
     // Of a search that was refused.
     fn refused(refusal: Refusal) -> Answer
-        ensures { result.refusal ≡ slice_index (told refusal) 0 }
+        ensures { TellsRefused refusal result }
     {
         Answer {
             refusal: refusal.number(),
