@@ -25,6 +25,7 @@ pub fn write_page<K: Kind, L: Kind>(
     ensures answers { IfOk result (HasPage (page_of (net_of problem.now) (kinds_of K.meaning L.meaning problem.now) (stages_of split.now)) buffer.old buffer.new) }
     ensures keeps { OnErr result (buffer.new ≡ buffer.old) }
     ensures short { length (page_of (net_of problem.now) (kinds_of K.meaning L.meaning problem.now) (stages_of split.now)) ≤ most_page }
+    ensures most { «MOST_PAGE» ≡ most_page }
 {
     let stages = split.stages();
     let pace = pace(problem, stages);
