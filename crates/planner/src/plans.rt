@@ -34,7 +34,7 @@ impl<K: Kind, L: Kind, S: Scale> Planner<K, L, S> {
         ensures plans { Plans (kinds_in self.old) (rules_in self.old) ideals.old ideals.new ratings.old choices.old ratings.new choices.new (state self.old) (state self.new) result }
         ensures law { (h : List (Event S.Rating)) → Holds (kinds_in self.old) (rules_in self.old) h (state self.old) → Holds (kinds_in self.old) (rules_in self.old) (event (calls.Plan (length ideals.old) (length ratings.old) (length choices.old)) (by_plan result) ∷ h) (state self.new) }
     {
-        // not by `problem`: its parts are lent one by one here, while the scale is lent beside them
+        // spelled out and not by `problem`: the proof of what is promised takes the parts as they stand
         let problem = Problem {
             sheet: &self.sheet,
             first: &self.first,
