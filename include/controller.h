@@ -26,7 +26,8 @@ extern "C" {
 /*
  * A planner on the scale peak (the slowest stage), line (all ticks) or pair (ticks and then link of the largest stage). Its bytes say nothing
  * to the caller, who never writes them: they are all 0, as those of a static are, until the `new` of its scale makes them a planner, and from
- * then on only the library makes them. They may be moved and copied whole.
+ * then on only the library makes them. All 0, they are a planner too: without operators, with accelerators of the limit 0. They may be moved
+ * and copied whole.
  */
 struct planner_peak {
     uint64_t opaque[230];
