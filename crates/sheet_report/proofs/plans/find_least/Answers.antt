@@ -13,7 +13,7 @@ returns g c =
     let ratings = c.deref_mut-2.result.now in
     let choices = c.deref_mut-3.result.now in
     let count : c.args.ideals * c.width.result ≡ cells_of n.k n.l c.args.ideals =
-    rw (c.width.ensures, c.counts.ensures.0, c.counts.ensures.1) (sym (mul_assoc c.args.ideals (n.k + 1) (n.l + 1))) in
+    rw (c.width.ensures, c.new-rows.ensures.counts, c.counts.ensures.0, c.counts.ensures.1) (sym (mul_assoc c.args.ideals (n.k + 1) (n.l + 1))) in
     let so_many : length masks ≡ c.args.ideals = c.deref_mut.ensures.len ∙ c.in_ok-masks.ensures.len in
     let rated : length ratings ≡ cells_of n.k n.l c.args.ideals = c.deref_mut-2.ensures.len ∙ c.in_ok-ratings.ensures.len ∙ count in
     let chosen : length choices ≡ cells_of n.k n.l c.args.ideals = c.deref_mut-3.ensures.len ∙ c.in_ok-choices.ensures.len ∙ count in
