@@ -5,7 +5,7 @@ use Rattle.refusals.specs.Told.{told, outcome}
 use Rattle.refusals.proofs.Tellings.{told_something}
 use Rattle.sheet.specs.Nets.{Net}
 use Rattle.split.specs.declared.stages.Stage.{Stage}
-use Rattle.split.specs.Splits.{Kinds}
+use Rattle.split.specs.Splits.{Kinds, Least}
 use Rattle.scale.specs.Scales.{peak}
 use Rattle.ideals.specs.Ideals.{ideals}
 use Rattle.cells.specs.declared.choices.Choice.{Choice}
@@ -15,7 +15,7 @@ use Rattle.best_split.specs.Finds.{Finds}
 use Rattle.best_split.specs.Views.{stages_of}
 use Rattle.page_report.specs.SplitPages.{devices, planning, found}
 use Rattle.sheet_text.specs.Causes.{refused_text}
-use Rattle.sheet_graph.specs.Graphs.{node_lines, arrows, head, drawn, graph_of}
+use Rattle.sheet_graph.specs.Graphs.{node_lines, arrows, head, drawn, graph_of, DrawnLeast}
 
 told_drawn : (n : Net) (ts : List ℕ) (ss : List Stage) → (ts ≡ [] → ⊥)
     → head ++ (codes "label=\"" ++ (refused_text ts ++ (codes "\";\n" ++ (node_lines n ++ (arrows n ++ codes "}\n"))))) ≡ drawn n ts ss
@@ -42,3 +42,13 @@ module _ (n : Net) (e : Kinds) (same : e ≡ devices) {ms ms' rs rs' : List ℕ}
   pub as_refused : (x : Refusal) → r ≡ Err x → {X E : Type 0} (text : X → List ℕ) (q : Result X E) → IfOk q (λ t. (ss : List Stage) → text t ≡ drawn n (told x) ss) → IfOk q (λ t. text t ≡ graph_of n)
   as_refused x is text (Ok t) drawn_so = drawn_so (found n) ∙ ap (λ ts. drawn n ts (found n)) (sym (ap outcome is) ∙ told_so)
   as_refused x is text (Err y) drawn_so = tt
+
+  pub drawn_least : DrawnLeast n
+  drawn_least granted = least_of r finds.answers finds.least (told_so ∙ granted)
+    where
+      least_of : (q : Result (Found ℕ) Refusal) → IfOk q (λ g. (best_of n e peak ≡ Some g.rating) × (stages_of g.split ≡ split_of n e peak) × (g.ideals ≡ length (ideals n)))
+          → IfOk q (λ g. Least n e peak (stages_of g.split) g.rating) → outcome q ≡ [] → (x : ℕ) × Least n devices peak (found n) x
+      least_of (Err x) answered least none = absurd (told_something x none)
+      least_of (Ok g) answered least none =
+          let stages : stages_of g.split ≡ found n = answered.1 ∙ ap (λ d. split_of n d peak) same in
+          (g.rating, subst (λ d. Least n d peak (found n) g.rating) same (subst (λ ss. Least n e peak ss g.rating) stages least))

@@ -8,6 +8,7 @@
 --   clusters n ss       those of all stages, first to last
 --   drawn n ts ss       the graph with the stages ss, or, where something is told, with what is refused in place of them
 --   graph_of n          the graph of the sheet n, with the split that its page is of
+--   DrawnLeast n        of the graph of the sheet n, what its stages are
 --   Draws f t           t is the graph of the sheet of the file f, or what is refused
 use Rattle.std.specs.Prelude.{◌≡◌, ℕ, List, [], ◌∷◌, ◌++◌, length, codes, decimal}
 use Rattle.std.specs.List.{flat_map}
@@ -16,9 +17,10 @@ use Rattle.sheet.specs.Nets.{Net, size, row, after}
 use Rattle.sheet_layout.specs.Bodies.{file_refusal}
 use Rattle.sheet_layout.specs.Layout.{LaidOut}
 use Rattle.split.specs.declared.stages.Stage.{Stage}
-use Rattle.split.specs.Splits.{stage_at}
+use Rattle.scale.specs.Scales.{peak}
+use Rattle.split.specs.Splits.{stage_at, Least}
 use Rattle.pages.specs.Pages.{letter}
-use Rattle.page_report.specs.SplitPages.{planning, found}
+use Rattle.page_report.specs.SplitPages.{devices, planning, found}
 use Rattle.sheet_text.specs.Causes.{refused_text}
 
 abbrev pub node_line : Net → ℕ → List ℕ
@@ -56,6 +58,10 @@ drawn n (x ∷ xs) ss = head ++ (codes "label=\"" ++ (refused_text (x ∷ xs) ++
 abbrev pub graph_of : Net → List ℕ
 graph_of n = drawn n (planning n) (found n)
 
+-- the stages that are drawn are a lawful split, and no lawful split rates lower
+abbrev pub DrawnLeast : Net → Type 0
+DrawnLeast n = planning n ≡ [] → (r : ℕ) × Least n devices peak (found n) r
+
 pub record Draws (f t : List ℕ) : Type 0 where
-  pub accepted : (n : Net) → LaidOut f n → t ≡ graph_of n
+  pub accepted : (n : Net) → LaidOut f n → (t ≡ graph_of n) × DrawnLeast n
   pub refused : (x : ℕ) (xs : List ℕ) → file_refusal f ≡ x ∷ xs → t ≡ refused_text (x ∷ xs) ++ codes "\n"

@@ -3,7 +3,7 @@ ghost use Rattle.std.specs.Prelude.{◌≡◌, List, [], IfOk, string_bytes};
 ghost use Rattle.refusals.specs.Told.{told};
 ghost use Rattle.sheet.specs.Views.{net};
 ghost use Rattle.split.specs.declared.stages.Stage.{Stage};
-ghost use Rattle.sheet_graph.specs.Graphs.{drawn, graph_of, Draws};
+ghost use Rattle.sheet_graph.specs.Graphs.{drawn, graph_of, DrawnLeast, Draws};
 
 use crate::clusters::Clusters;
 use crate::edges::Arrows;
@@ -45,7 +45,8 @@ fn draw_refused(heap: Global, sheet: &Sheet, refusal: Refusal) -> Result<String,
 
 // The graph of a sheet: with the stages of a least split on peak, or with what is refused in place of them.
 pub fn draw(heap: Global, sheet: &Sheet) -> Result<String, AllocError>
-    ensures { IfOk result (λ t. string_bytes t ≡ graph_of (net sheet.now)) }
+    ensures graph { IfOk result (λ t. string_bytes t ≡ graph_of (net sheet.now)) }
+    ensures least { DrawnLeast (net sheet.now) }
 {
     let problem = Problem {
         sheet,
