@@ -80,6 +80,20 @@ static void new_tests_the_limit(void)
     CHECK(is(planner_peak_new(planner, 4), 0));
 }
 
+/* Memory that is all 0: no operator, and accelerators of the limit 0. */
+static void zeros_are_a_planner(void)
+{
+    static struct planner_peak zeros;
+    struct planner_peak_plan plan = planner_peak_plan(&zeros, ideals, 1, ratings, 1, choices, 1);
+    CHECK(is(plan.refusal, 0) && plan.stages == 0 && plan.ideals == 1 && plan.rating == 0);
+    CHECK(planner_peak_add(&zeros, 3, 9, 0, 2).value == 0);
+    CHECK(is(planner_peak_count(&zeros, 1, 0), 0));
+    plan = planner_peak_plan(&zeros, ideals, 2, ratings, 4, choices, 4);
+    CHECK(is(plan.refusal, 0) && plan.stages == 1 && plan.rating == 3);
+    CHECK(is(planner_peak_retime(&zeros, 0, 3, 9, 1, 2), 0));
+    CHECK(is(planner_peak_plan(&zeros, ideals, 2, ratings, 4, choices, 4).refusal, 9));
+}
+
 static void edits_are_refused(void)
 {
     draw_diamond(2, 0);
@@ -223,6 +237,7 @@ int main(void)
     memset(memory.before, MARK, sizeof memory.before);
     memset(memory.after, MARK, sizeof memory.after);
     new_tests_the_limit();
+    zeros_are_a_planner();
     edits_are_refused();
     nothing_stands();
     plan_takes_each_length();
