@@ -80,6 +80,8 @@ impl<'a, S: Scale> Rows<'a, S> {
     }
 
     // Offers the row at `from`, of an ideal, to the row at `to`, with a stage of this load on this kind.
+    // In line at both of its calls: out of line the addresses of the two tables are read anew after each write.
+    #[inline(always)]
     fn offer_on(
         &self,
         tables: &mut Tables<'_, S::Rating>,

@@ -4,5 +4,6 @@
 mod known;
 mod memos;
 mod splits;
+mod vertices;
 
 pub use memos::StageMemo;

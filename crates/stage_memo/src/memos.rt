@@ -1,27 +1,30 @@
-ghost use Rattle.std.specs.Prelude.{◌≡◌, ℕ, ◌<◌, ◌≤◌, length, slice_index, slice_index_or, sum_by};
+ghost use Rattle.std.specs.Prelude.{◌≡◌, ℕ, ◌<◌, ◌≤◌, slice_index_or, sum_by};
 ghost use Rattle.std.specs.List.{All};
 ghost use Rattle.std.specs.Option.{ForSome};
 ghost use Rattle.sets.specs.Sets.{In, including, members};
 ghost use Rattle.sheet.specs.Rules.{most_sum};
-ghost use Rattle.sheet.specs.Nets.{before};
 ghost use Rattle.sheet.specs.Nets.{row as row_of};
 ghost use Rattle.sheet.specs.Figures.{figures_of};
 ghost use Rattle.sheet.specs.Views.{net, sums};
 ghost use Rattle.stage_memo.specs.Known.{Right};
 ghost use Rattle.stage_memo.specs.Parts.{Tail};
+ghost use Rattle.stage_memo.specs.Vertices.{vertex_of};
+ghost use Rattle.stage_memo.specs.declared.vertices.Vertex.{Vertex};
 
 use super::known::Known;
 use super::splits::{split_highest, split_lowest};
-use sheet::{Operator, Sheet, StageFigures};
+use super::vertices::Vertex;
+use sheet::{Sheet, StageFigures};
 use std::array;
 
-// A sheet and, in fixed memory, the predecessors of each number, and what is known of some sets: at each number of one whose lowest operator it is, and until then of the set without operators.
+// A sheet and, in fixed memory, a vertex for each number, and what is known of some sets: at each number of one whose lowest operator it is, and until then of the set without operators.
+// The vertices are of the sheet, once more: of these a number below 64 is one without a test of how many operators there are.
 #[derive(Drop)]
 pub struct StageMemo<'a> {
     sheet: &'a Sheet,
-    predecessors: [u64; 64],
+    vertices: [Vertex; 64],
     known: [Known; 64],
-    ghost edges: { ((v : ℕ) → v < 64 → slice_index predecessors v ≡ before (net sheet.now) v) },
+    ghost network: { (v : ℕ) (d : Vertex) → v < 64 → slice_index_or vertices v d ≡ vertex_of (net sheet.now) v },
     ghost right: { All (Right (net sheet.now)) known },
 }
 
@@ -34,20 +37,16 @@ impl<'a> StageMemo<'a> {
     {
         StageMemo {
             sheet,
-            predecessors: array::from_fn(|v| sheet.predecessors(v)),
+            vertices: array::from_fn(|v| Vertex::of(sheet, v)),
             known: [Known::of_none(); 64],
         }
     }
 
-    // The figures of the number `v`.
-    fn row(&self, v: usize) -> &Operator
-        ensures { result.now ≡ row_of (memo_net self.now) v }
+    // The link of the number `v`.
+    fn link(&self, v: usize) -> u32
+        ensures { result ≡ (row_of (memo_net self.now) v).link }
     {
-        // not by `unwrap_or`: the two rows live for different times
-        match self.sheet.row(v) {
-            Some(row) => row,
-            None => &Operator::BLANK,
-        }
+        self.vertices.get(v).map_or(0, |vertex| vertex.link)
     }
 
     // The sum of the links of a set of operators.
@@ -55,7 +54,7 @@ impl<'a> StageMemo<'a> {
         ensures value { result ≡ sum_by (λ v. (row_of (memo_net self.now) v).link) (members set) }
         ensures bound { result ≤ most_sum }
     {
-        sets::members_of(set).map(|v| self.row(v).link).sum()
+        sets::members_of(set).map(|v| self.link(v)).sum()
     }
 
     // What is known of a set with an operator below all of its own added.
@@ -67,18 +66,16 @@ impl<'a> StageMemo<'a> {
         ensures right { Right (memo_net self.now) result }
     {
         let old = above.figures;
-        let row = self.row(v);
-        // read before the two tests, so that the compiler chooses by their answers without a jump
-        let link = row.link;
+        let vertex = self.vertices[v];
+        let link = vertex.link;
         let mask = sets::include(old.mask, v);
-        let predecessors = self.predecessors[v];
-        let fresh = self.links(sets::difference(predecessors, above.feeding));
+        let fresh = self.links(sets::difference(vertex.predecessors, above.feeding));
         let kept = if sets::holds(above.feeding, v) {
             old.incoming - link
         } else {
             old.incoming
         };
-        let outgoing = if sets::is_inside(self.sheet.successors(v), old.mask) {
+        let outgoing = if sets::is_inside(vertex.successors, old.mask) {
             old.outgoing
         } else {
             old.outgoing + link
@@ -86,13 +83,13 @@ impl<'a> StageMemo<'a> {
         Known {
             figures: StageFigures {
                 mask,
-                acc: old.acc + row.acc,
-                cpu: old.cpu + row.cpu,
-                size: old.size + row.size,
+                acc: old.acc + vertex.acc,
+                cpu: old.cpu + vertex.cpu,
+                size: old.size + vertex.size,
                 incoming: kept + fresh,
                 outgoing,
             },
-            feeding: sets::difference(sets::union(above.feeding, predecessors), mask),
+            feeding: sets::difference(sets::union(above.feeding, vertex.predecessors), mask),
         }
     }
 

@@ -1,3 +1,4 @@
+pub mod Next
 pub mod Offers
 pub mod Rows
 pub mod Same

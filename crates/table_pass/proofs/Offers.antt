@@ -18,7 +18,7 @@ number_some one = refl
 number_some two = refl
 
 module _ {R : Type 0} (s : Rules R) where
-  lesser_none : (y : Option (Candidate R)) → lesser s y None ≡ y
+  pub lesser_none : (y : Option (Candidate R)) → lesser s y None ≡ y
   lesser_none None = refl
   lesser_none (Some c) = refl
 

@@ -5,8 +5,9 @@ use Rattle.std.proofs.lemmas.Bool.{cases_eq, cond-true, le-leb, lt-leb, and_from
 use Rattle.device.specs.Loads.{PlainLoad}
 use Rattle.refusals.specs.declared.Refusal.TheVariants.{TooFewCells}
 use Rattle.refusals.specs.Told.{told}
+use Rattle.sets.specs.Sets.{inside}
 use Rattle.scale.specs.Rules.{Rules}
-use Rattle.recurrence.specs.Table.{one, two, Candidate, Setting, among, cut, best, via, pick, less_one, less_two, rating_of}
+use Rattle.recurrence.specs.Table.{KindNumber, one, two, Candidate, Setting, lesser, offer, among, ideal, cut, best, via, pick, less_one, less_two, rating_of}
 use Rattle.ideals.specs.Ideals.{most_ideals}
 use Rattle.recurrence.proofs.Links.{best_via}
 use Rattle.cells.specs.declared.choices.Choice.{Choice}
@@ -14,7 +15,8 @@ use Rattle.cells.specs.Cells.{Cell, no_choice, cell_at, clear_cell}
 use Rattle.cells.specs.Rows.{width_of, place, row, both, Onto, row_fits, rows_fit}
 use Rattle.cells.proofs.RowSteps.{line_le}
 use Rattle.table_pass.specs.Filled.{shown, chosen, reached, or_start, cell, cells_of, cells_fit, fill_refusal, Passed, Filled}
-use Rattle.table_pass.proofs.Offers.{both_is}
+use Rattle.table_pass.specs.Passes.{NoneInside}
+use Rattle.table_pass.proofs.Offers.{lesser_none, both_is}
 
 -- a place of a row lies in it
 pub place_lt : (k l a b : ℕ) → a < k + 1 → b ≤ l → place l a b < width_of k l
@@ -50,6 +52,34 @@ module _ {R : Type 0} (e : Setting R) (bottom : (a b : ℕ) → e.bottom a b ≡
 
       right : (a b : ℕ) → a < k + 1 → b ≤ l → t₁ (j * width_of k l + place l a b) ≡ shown e.rules (pick e a b j)
       right a b h h' = p.below _ (under a b h h') ∙ filled j a b lt h h'
+
+  -- ideals that do not lie inside offer nothing
+  cut_none : (k : KindNumber) (a b i j : ℕ) → inside (ideal e j) (ideal e i) ≡ false → cut e k a b i j ≡ None
+  cut_none k a b i j out = rw out refl
+
+  offers_none : (j : ℕ) (k : KindNumber) (r : Option R) (x : Option PlainLoad) (y : Option (Candidate R)) → x ≡ None → lesser e.rules y (offer e.rules j k r x) ≡ y
+  offers_none j k None x y none = lesser_none e.rules y
+  offers_none j k (Some r) x y none = rw none (lesser_none e.rules y)
+
+  skips : (i from : ℕ) (a b : ℕ) (n : ℕ) → NoneInside e.ideals (ideal e i) from (from + n)
+      → among e.rules (less_one e a b) (less_two e a b) (cut e one a b i) (cut e two a b i) (from + n) ≡ among e.rules (less_one e a b) (less_two e a b) (cut e one a b i) (cut e two a b i) from
+  skips i from a b zero out = let same : from + 0 ≡ from = omega arith in ap (among e.rules (less_one e a b) (less_two e a b) (cut e one a b i) (cut e two a b i)) same
+  skips i from a b (suc n) out =
+      let j : from + suc n ≡ suc (from + n) = omega arith in
+      let last : inside (ideal e (from + n)) (ideal e i) ≡ false = out (from + n) (omega arith) (omega arith) in
+      ap (among e.rules (less_one e a b) (less_two e a b) (cut e one a b i) (cut e two a b i)) j
+      ∙ offers_none (from + n) two (less_two e a b (from + n)) (cut e two a b i (from + n)) _ (cut_none two a b i (from + n) last)
+      ∙ offers_none (from + n) one (less_one e a b (from + n)) (cut e one a b i (from + n)) _ (cut_none one a b i (from + n) last)
+      ∙ skips i from a b n (λ u h h'. out u h (omega arith))
+
+  pub row_skips : (i from to : ℕ) (t₀ t₁ : ℕ → Cell R) → from ≤ to → NoneInside e.ideals (ideal e i) from to → Row i (reached e i from) t₀ t₁ → Row i (reached e i to) t₀ t₁
+  row_skips i from to t₀ t₁ up out p =
+      let n : to ≡ from + (to - from) = omega arith in
+      record {
+        here = λ a b h h'. p.here a b h h' ∙ ap (shown e.rules) (sym (skips i from a b (to - from) (λ u k k'. out u k (omega arith))) ∙ ap (among e.rules (less_one e a b) (less_two e a b) (cut e one a b i) (cut e two a b i)) (sym n));
+        below = p.below;
+        above = p.above;
+      }
 
   pub filled_more : (i : ℕ) (t₁ t₂ : ℕ → Cell R) → Filled e k l i t₁ → Row i (reached e i i) t₁ t₂ → Filled e k l (i + 1) t₂
   filled_more i t₁ t₂ f o i' a b h m m' = ⊎_elim

@@ -5,7 +5,10 @@
 --   offered_row p t i j     what the cells of ideal i become where the row of ideal j is offered to them
 --   RowTurns p t u i g      from t to u the row of ideal i went by g, and no other cell changed
 --   SamePass p q            q is p but for what was measured
-use Rattle.std.specs.Prelude.{◌≡◌, ℕ, ◌+◌, ◌*◌, length}
+--   NoneInside ms m f t     no ideal of the list ms from index f on and before t lies inside m
+--   NextInside ms m f i r   r is the first index from f on and before i at which an ideal of the list ms lies inside m
+use Rattle.std.specs.Prelude.{◌≡◌, ℕ, ◌+◌, ◌*◌, ◌<◌, ◌≤◌, true, false, List, length, slice_index, Option, MatchOption}
+use Rattle.sets.specs.Sets.{inside}
 use Rattle.device.specs.declared.kinds.Kind as kind
 use Rattle.scale.specs.declared.scales.Scale as scale
 use Rattle.split.specs.Problems.{net_of, kinds_of}
@@ -37,3 +40,9 @@ module _ {K L S R : Type 0} {first : kind.Ghosts K} {second : kind.Ghosts L} {or
     pub problem : q.problem ≡ p.problem
     pub rows : q.rows ≡ p.rows
     pub ideals : q.ideals ≡ p.ideals
+
+abbrev pub NoneInside : List ℕ → ℕ → ℕ → ℕ → Type 0
+NoneInside ms m f t = (u : ℕ) → f ≤ u → u < t → inside (slice_index ms u) m ≡ false
+
+abbrev pub NextInside : List ℕ → ℕ → ℕ → ℕ → Option ℕ → Type 0
+NextInside ms m f i r = MatchOption r (NoneInside ms m f i) (λ j. (f ≤ j) × (j < i) × (inside (slice_index ms j) m ≡ true) × NoneInside ms m f j)

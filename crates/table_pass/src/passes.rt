@@ -1,4 +1,5 @@
-ghost use Rattle.std.specs.Prelude.{◌≡◌, ◌*◌, ◌<◌, ◌≤◌, length};
+ghost use Rattle.std.specs.Prelude.{◌≡◌, ◌*◌, ◌<◌, ◌≤◌, true, length, slice_index};
+ghost use Rattle.sets.specs.Sets.{inside};
 ghost use Rattle.split.specs.Problems.{net_of};
 ghost use Rattle.stage_memo.specs.Views.{memo_net};
 ghost use Rattle.cells.specs.Rows.{width_of};
@@ -24,7 +25,7 @@ pub(crate) struct Pass<'a, K: Kind, L: Kind, S: Scale> {
 
 impl<K: Kind, L: Kind, S: Scale> Pass<'_, K, L, S> {
     ghost use Rattle.table_pass.specs.Filled.{reached, Filled, Passed};
-    ghost use Rattle.table_pass.specs.Passes.{setting_of, cells_in, offered_row, HasRoom, RowTurns, SamePass};
+    ghost use Rattle.table_pass.specs.Passes.{setting_of, cells_in, offered_row, HasRoom, RowTurns, SamePass, NextInside};
 
     // Where the row of ideal `i` begins.
     fn row_at(&self, i: usize) -> usize
@@ -34,10 +35,23 @@ impl<K: Kind, L: Kind, S: Scale> Pass<'_, K, L, S> {
         i * self.rows.width()
     }
 
-    // Offers the row of ideal `j` to that of ideal `i`, where `j` lies inside `i`: the stage between them is measured once, and each kind is asked once.
+    // The first ideal from index `from` on, and before `i`, that lies inside `outer`.
+    fn next_inside(&self, outer: u64, from: usize, i: usize) -> Option<usize>
+        requires range { from ≤ i }
+        requires listed { i ≤ length self.now.ideals.now }
+        ensures { NextInside self.now.ideals.now outer from i result }
+    {
+        let steps = self.ideals[from..i]
+            .iter()
+            .position(|inner| sets::is_inside(*inner, outer))?;
+        Some(from + steps)
+    }
+
+    // Offers the row of ideal `j`, which lies inside ideal `i`, to that of `i`: the stage between them is measured once, and each kind is asked once.
     fn offer_ideal(&mut self, tables: &mut Tables<'_, S::Rating>, i: usize, j: usize)
         requires before { j < i }
         requires listed { i < length self.old.ideals.now }
+        requires inside { inside (slice_index self.old.ideals.now j) (slice_index self.old.ideals.now i) ≡ true }
         requires room { HasRoom self.old tables.old }
         ensures same { SamePass self.old self.new }
         ensures lent { SameTables tables.old tables.new }
@@ -45,14 +59,12 @@ impl<K: Kind, L: Kind, S: Scale> Pass<'_, K, L, S> {
     {
         let inner = self.ideals[j];
         let outer = self.ideals[i];
-        if sets::is_inside(inner, outer) {
-            let figures = self.memo.figures(outer - inner);
-            let x = self.problem.first.load(&figures);
-            let y = self.problem.second.load(&figures);
-            let from = self.row_at(j);
-            let to = self.row_at(i);
-            self.rows.offer(tables, from, to, j as u32, &x, &y).unwrap();
-        }
+        let figures = self.memo.figures(outer - inner);
+        let x = self.problem.first.load(&figures);
+        let y = self.problem.second.load(&figures);
+        let from = self.row_at(j);
+        let to = self.row_at(i);
+        self.rows.offer(tables, from, to, j as u32, &x, &y).unwrap();
     }
 
     // Fills the row of ideal `i`, where the rows of those before it stand.
@@ -66,9 +78,12 @@ impl<K: Kind, L: Kind, S: Scale> Pass<'_, K, L, S> {
     {
         let at = self.row_at(i);
         self.rows.clear(tables, at).unwrap();
-        // over the ideals by index: the rows stand by it, and the choices name it
-        for j in 0..i {
+        let outer = self.ideals[i];
+        // by index: the rows stand by it, and the choices name it; from one ideal inside to the next, so that a loop of its own passes over the others
+        let mut from = 0;
+        while let Some(j) = self.next_inside(outer, from, i) {
             self.offer_ideal(tables, i, j);
+            from = j + 1;
         }
     }
 

@@ -1,4 +1,4 @@
-use Rattle.std.proofs.Common.{◌-◌, ◌*◌, length, get_or, sym, ap, ◌∙◌}
+use Rattle.std.proofs.Common.{◌-◌, ◌*◌, length, get_or, ap, ◌∙◌}
 use Rattle.std.proofs.lemmas.Result.{IfOk-at_ok}
 use Rattle.sets.specs.Sets.{inside}
 use Rattle.sheet.specs.Nets.{Net}
@@ -20,8 +20,8 @@ unwrap-requires g c =
     c.offer.ensures.fits
     ∙ rows_fit_in c.args.i c.args.j (length p.ideals.now) c.row_at-from.result c.row_at-to.result v (length t.ratings.now) (length t.choices.now) c.row_at-from.ensures c.row_at-to.ensures c.requires.before c.requires.listed c.requires.room.0 c.requires.room.1
 
-pub returns-then-is_inside-clause-rows : goal.returns-then-is_inside-clause-rows
-returns-then-is_inside-clause-rows g c =
+pub returns-clause-rows : goal.returns-clause-rows
+returns-clause-rows g c =
     let p = c.args.self.now in
     let t = c.args.tables.now in
     let s = g.S.Scale.rules p.rows.scale.now in
@@ -36,7 +36,7 @@ returns-then-is_inside-clause-rows g c =
     let l = p.rows.counts.l in
     let test = inside (get_or ms j 0) (get_or ms i 0) in
     let mask = get_or ms i 0 - get_or ms j 0 in
-    let within = sym c.is_inside.ensures ∙ c.if-is_inside.true in
+    let within = c.requires.inside in
     let measured = c.figures-figures.ensures.value ∙ ap (λ (m : Net). figures_of m mask) p.measures in
     offered_cut s j (cut e one 0 0 i j) (answered c.load-x.result) (cut e two 0 0 i j) (answered c.load-y.result) k l (j * width_of k l) c.row_at-from.result (i * width_of k l) c.row_at-to.result
     (table s t) (table s c.offer.new.tables) c.row_at-from.ensures c.row_at-to.ensures
