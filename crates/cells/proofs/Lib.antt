@@ -1,2 +1,4 @@
 pub mod RowSteps
+pub mod Falls
+pub mod Stops
 pub mod Clears

@@ -24,7 +24,7 @@ abbrev pub place : ℕ → ℕ → ℕ → ℕ
 place l a b = a * (l + 1) + b
 
 abbrev pub runs_of : ℕ → ℕ → WhichKind → Runs
-runs_of k l First = record { count = 1; cells = k * (l + 1); step = l + 1 }
+runs_of k l First = record { count = k; cells = l + 1; step = l + 1 }
 runs_of k l Second = record { count = k + 1; cells = l; step = 1 }
 
 abbrev pub by_first : ℕ → Choice

@@ -2,6 +2,7 @@
 ghost use Rattle.std.specs.Prelude.{◌≡◌, ◌+◌, ◌≤◌, nat_le, is_ok, OnOk, OnErr};
 ghost use Rattle.std.specs.Result.{result_err};
 ghost use Rattle.device.specs.Views.{answered};
+ghost use Rattle.cells.specs.Falls.{Around, Fall};
 ghost use Rattle.cells.specs.Rows.{width_of, runs_of, on, both, clear, row, Onto};
 ghost use Rattle.cells.specs.Tables.{table, HasCells, SameTables, holds_row, holds_rows, row_error, rows_error};
 
@@ -19,7 +20,7 @@ pub struct Rows<'a, S> {
     ghost wide: { width ≡ width_of counts.k counts.l },
 }
 
-// Where a stage leads on in a row: from `cells` cells at the beginning of each of the first `count` lines, each to the cell `step` further.
+// Where a stage leads on in a row: from the first `cells` cells of each of the first `count` lines, each to the cell `step` further.
 #[derive(Clone, Copy)]
 struct Runs {
     count: usize,
@@ -60,15 +61,15 @@ impl<'a, S: Scale> Rows<'a, S> {
         self.width
     }
 
-    // The runs of a kind: one with which each line leads to the next, or one in each line, in which each cell leads to the next.
+    // The runs of a kind: of the first, each line but the last leads to the next one; of the second, in each line each cell but the last leads to the next one.
     fn runs(&self, kind: WhichKind) -> Runs
         ensures { result ≡ runs_of self.now.counts.k self.now.counts.l kind }
     {
         let k = usize::from(self.counts.k);
         match kind {
             WhichKind::First => Runs {
-                count: 1,
-                cells: k * self.line(),
+                count: k,
+                cells: self.line(),
                 step: self.line(),
             },
             WhichKind::Second => Runs {
@@ -79,7 +80,8 @@ impl<'a, S: Scale> Rows<'a, S> {
         }
     }
 
-    // Offers the row at `from`, of an ideal, to the row at `to`, with a stage of this load on this kind.
+    // Offers the row at `from`, of an ideal, to the row at `to`, with a stage of this load on this kind, where both rows fall.
+    // Then no candidate is below that of the last cell that leads on, and where that is no lower than the first cell of a line, it is no lower than any cell from there on.
     // In line at both of its calls: out of line the addresses of the two tables are read anew after each write.
     #[inline(always)]
     fn offer_on(
@@ -94,16 +96,27 @@ impl<'a, S: Scale> Rows<'a, S> {
         requires apart { from + width_of self.now.counts.k self.now.counts.l ≤ to }
         requires room { HasCells tables.old (to + width_of self.now.counts.k self.now.counts.l) }
         ensures same { SameTables tables.old tables.new }
-        ensures offers { let s = S.Scale.rules self.now.scale.now in let before = table s tables.old in Onto self.now.counts.l (self.now.counts.k + 1) to (on s kind ideal (answered load.now) (row self.now.counts.l from before)) before (table s tables.new) }
+        ensures around { let s = S.Scale.rules self.now.scale.now in Around (width_of self.now.counts.k self.now.counts.l) to (table s tables.old) (table s tables.new) }
+        ensures offers { let s = S.Scale.rules self.now.scale.now in let k = self.now.counts.k in let l = self.now.counts.l in let before = table s tables.old in Fall s k l ideal from to before → Onto l (k + 1) to (on s kind ideal (answered load.now) (row l from before)) before (table s tables.new) }
     {
         let Some(load) = load else {
             return;
         };
         let choice = Choice::of(ideal, kind);
         let runs = self.runs(kind);
+        if runs.count == 0 || runs.cells == 0 {
+            return;
+        }
+        let last = from + (runs.count - 1) * self.line() + runs.cells - 1;
+        let Some(bound) = tables.candidate(self.scale, last, choice, load) else {
+            return;
+        };
         // the lines of a row by number, since they begin at its multiples in the two tables
         for r in 0..runs.count {
             let line = r * self.line();
+            if tables.is_settled(self.scale, to + line + runs.step, bound) {
+                return;
+            }
             tables.shift(
                 self.scale,
                 from + line,
@@ -111,6 +124,7 @@ impl<'a, S: Scale> Rows<'a, S> {
                 runs.cells,
                 choice,
                 load,
+                bound,
             );
         }
     }
@@ -130,6 +144,7 @@ impl<'a, S: Scale> Rows<'a, S> {
     }
 
     // Offers the row at `from`, of an ideal, to the row at `to`: with a stage of the load `x` on kind 1, then with one of the load `y` on kind 2.
+    // Where both rows fall, as those of a table that is filled row by row do, each cell of the second becomes what both offers make of it. Cells outside it never change.
     pub fn offer(
         &self,
         tables: &mut Tables<'_, S::Rating>,
@@ -142,7 +157,8 @@ impl<'a, S: Scale> Rows<'a, S> {
         ensures fits { is_ok result ≡ holds_rows tables.old from to (width_of self.now.counts.k self.now.counts.l) }
         ensures refuses { result_err result ≡ rows_error tables.old from to (width_of self.now.counts.k self.now.counts.l) }
         ensures same { SameTables tables.old tables.new }
-        ensures offers { let s = S.Scale.rules self.now.scale.now in let before = table s tables.old in OnOk result (Onto self.now.counts.l (self.now.counts.k + 1) to (both s ideal (answered x.now) (answered y.now) (row self.now.counts.l from before)) before (table s tables.new)) }
+        ensures around { let s = S.Scale.rules self.now.scale.now in Around (width_of self.now.counts.k self.now.counts.l) to (table s tables.old) (table s tables.new) }
+        ensures offers { let s = S.Scale.rules self.now.scale.now in let k = self.now.counts.k in let l = self.now.counts.l in let before = table s tables.old in OnOk result (Fall s k l ideal from to before → Onto l (k + 1) to (both s ideal (answered x.now) (answered y.now) (row l from before)) before (table s tables.new)) }
         ensures keeps { OnErr result (tables.new ≡ tables.old) }
     {
         if !ends_within(from, self.width(), to) {

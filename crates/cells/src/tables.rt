@@ -2,6 +2,7 @@
 ghost use Rattle.std.specs.Prelude.{◌≡◌, ◌+◌, ◌<◌, ◌≤◌, not, ◌||◌, ◌==◌};
 ghost use Rattle.device.specs.Views.{load_of};
 ghost use Rattle.cells.specs.Cells.{lowered, offered, poked, shifted, cleared};
+ghost use Rattle.cells.specs.Falls.{candidate, settled, Bounded, Around};
 ghost use Rattle.cells.specs.Tables.{table, HasCells, SameTables, TablesTurn};
 
 use super::Choice;
@@ -64,7 +65,30 @@ impl<'a, R: Copy> Tables<'a, R> {
         }
     }
 
-    // Offers the `count` cells from `from` on to those from `to` on.
+    // What the cell `from` gives with one stage of this load more, where a rating stands there.
+    pub(crate) fn candidate<S: Scale<Rating = R>>(
+        &self,
+        scale: &S,
+        from: usize,
+        choice: Choice,
+        load: &Load,
+    ) -> Option<R>
+        requires { HasCells self.now (from + 1) }
+        ensures { let s = S.Scale.rules scale.now in result ≡ candidate s choice (load_of load.now) (table s self.now from) }
+    {
+        is_standing(choice, self.choices[from]).then(|| scale.join(self.ratings[from], load))
+    }
+
+    // Whether a rating that is at most `bound` stands in the cell `at`.
+    pub(crate) fn is_settled<S: Scale<Rating = R>>(&self, scale: &S, at: usize, bound: R) -> bool
+        requires { HasCells self.now (at + 1) }
+        ensures { let s = S.Scale.rules scale.now in result ≡ settled s bound (table s self.now at) }
+    {
+        !self.choices[at].is_none() && scale.is_at_most(self.ratings[at], bound)
+    }
+
+    // Offers the `count` cells from `from` on to those from `to` on, where no candidate is below `bound`:
+    // up to the first that is settled, since those after it are no worse.
     pub(crate) fn shift<S: Scale<Rating = R>>(
         &mut self,
         scale: &S,
@@ -73,14 +97,19 @@ impl<'a, R: Copy> Tables<'a, R> {
         count: usize,
         choice: Choice,
         load: &Load,
+        bound: R,
     )
         requires apart { from + count ≤ to }
         requires room { HasCells self.old (to + count) }
         ensures same { SameTables self.old self.new }
-        ensures turns { let s = S.Scale.rules scale.now in TablesTurn s self.old self.new (shifted s choice (load_of load.now) from to count) }
+        ensures around { let s = S.Scale.rules scale.now in Around count to (table s self.old) (table s self.new) }
+        ensures turns { let s = S.Scale.rules scale.now in Bounded s choice (load_of load.now) bound from to count (table s self.old) → TablesTurn s self.old self.new (shifted s choice (load_of load.now) from to count) }
     {
         // By number: a cell is one place in two tables. Of two slices that are written through a `zip` a proof does not know what they hold afterwards, and a walk over one of them would leave the number for the other and for the cell that is offered.
         for c in 0..count {
+            if self.is_settled(scale, to + c, bound) {
+                return;
+            }
             self.offer(scale, from + c, to + c, choice, load);
         }
     }

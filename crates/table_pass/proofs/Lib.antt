@@ -1,3 +1,4 @@
+pub mod Falls
 pub mod Next
 pub mod Offers
 pub mod Rows

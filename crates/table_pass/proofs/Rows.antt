@@ -22,6 +22,10 @@ use Rattle.table_pass.proofs.Offers.{lesser_none, both_is}
 pub place_lt : (k l a b : ℕ) → a < k + 1 → b ≤ l → place l a b < width_of k l
 place_lt k l a b h h' = omega (arith, line_le a (k + 1) (l + 1) h)
 
+-- a cell of an earlier row stands before a later one
+pub before_row : (i j k l a b : ℕ) → j < i → a < k + 1 → b ≤ l → j * width_of k l + place l a b < i * width_of k l
+before_row i j k l a b lt h h' = omega (arith, line_le j i (width_of k l) lt, place_lt k l a b h h')
+
 pub cell_is : (k l i a b : ℕ) → cell k l i a b ≡ i * width_of k l + place l a b
 cell_is k l i a b = omega (arith, add-mul (i * (k + 1)) a (l + 1), mul_assoc i (k + 1) (l + 1))
 

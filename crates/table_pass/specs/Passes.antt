@@ -4,6 +4,9 @@
 --   cells_in p t            the cells of the tables, on the scale of the pass
 --   offered_row p t i j     what the cells of ideal i become where the row of ideal j is offered to them
 --   RowTurns p t u i g      from t to u the row of ideal i went by g, and no other cell changed
+--   RowFalls p t j          in the row of ideal j no cell is worse than one with no more devices: what it gives to a later row falls
+--   FallBefore p t i        so it is in the rows of the ideals before i
+--   RowHolds p t i          what stands in the row of ideal i falls
 --   SamePass p q            q is p but for what was measured
 --   NoneInside ms m f t     no ideal of the list ms from index f on and before t lies inside m
 --   NextInside ms m f i r   r is the first index from f on and before i at which an ideal of the list ms lies inside m
@@ -14,8 +17,9 @@ use Rattle.scale.specs.declared.scales.Scale as scale
 use Rattle.split.specs.Problems.{net_of, kinds_of}
 use Rattle.recurrence.specs.Table.{one, two, Setting, cut}
 use Rattle.recurrence.specs.Planned.{setting_over}
-use Rattle.cells.specs.Cells.{Cell}
-use Rattle.cells.specs.Rows.{width_of, row, both, Onto}
+use Rattle.cells.specs.Cells.{Cell, stands}
+use Rattle.cells.specs.Rows.{width_of, by_first, row, both, Onto}
+use Rattle.cells.specs.Falls.{holds, Falls}
 use Rattle.cells.specs.Tables.{table, HasCells}
 use Rattle.cells.specs.declared.tables.Tables.{Tables}
 use Rattle.table_pass.specs.declared.passes.Pass.{Pass}
@@ -35,6 +39,15 @@ module _ {K L S R : Type 0} {first : kind.Ghosts K} {second : kind.Ghosts L} {or
 
   abbrev pub RowTurns : Pass K L S R first second order → Tables R → Tables R → ℕ → (ℕ → ℕ → Cell R → Cell R) → Type 0
   RowTurns p t u i g = Onto p.rows.counts.l (p.rows.counts.k + 1) (i * width_of p.rows.counts.k p.rows.counts.l) g (cells_in p t) (cells_in p u)
+
+  abbrev pub RowFalls : Pass K L S R first second order → Tables R → ℕ → Type 0
+  RowFalls p t j = Falls (order.rules p.rows.scale.now) (stands (by_first j)) p.rows.counts.l (p.rows.counts.k + 1) (row p.rows.counts.l (j * width_of p.rows.counts.k p.rows.counts.l) (cells_in p t))
+
+  abbrev pub FallBefore : Pass K L S R first second order → Tables R → ℕ → Type 0
+  FallBefore p t i = (j : ℕ) → j < i → RowFalls p t j
+
+  abbrev pub RowHolds : Pass K L S R first second order → Tables R → ℕ → Type 0
+  RowHolds p t i = Falls (order.rules p.rows.scale.now) holds p.rows.counts.l (p.rows.counts.k + 1) (row p.rows.counts.l (i * width_of p.rows.counts.k p.rows.counts.l) (cells_in p t))
 
   pub record SamePass (p q : Pass K L S R first second order) : Type 0 where
     pub problem : q.problem ≡ p.problem

@@ -25,7 +25,7 @@ pub(crate) struct Pass<'a, K: Kind, L: Kind, S: Scale> {
 
 impl<K: Kind, L: Kind, S: Scale> Pass<'_, K, L, S> {
     ghost use Rattle.table_pass.specs.Filled.{reached, Filled, Passed};
-    ghost use Rattle.table_pass.specs.Passes.{setting_of, cells_in, offered_row, HasRoom, RowTurns, SamePass, NextInside};
+    ghost use Rattle.table_pass.specs.Passes.{setting_of, cells_in, offered_row, HasRoom, RowTurns, RowFalls, FallBefore, RowHolds, SamePass, NextInside};
 
     // Where the row of ideal `i` begins.
     fn row_at(&self, i: usize) -> usize
@@ -53,9 +53,12 @@ impl<K: Kind, L: Kind, S: Scale> Pass<'_, K, L, S> {
         requires listed { i < length self.old.ideals.now }
         requires inside { inside (slice_index self.old.ideals.now j) (slice_index self.old.ideals.now i) ≡ true }
         requires room { HasRoom self.old tables.old }
+        requires falls { RowFalls self.old tables.old j }
+        requires holds { RowHolds self.old tables.old i }
         ensures same { SamePass self.old self.new }
         ensures lent { SameTables tables.old tables.new }
         ensures rows { RowTurns self.old tables.old tables.new i (offered_row self.old tables.old i j) }
+        ensures holds { RowHolds self.old tables.new i }
     {
         let inner = self.ideals[j];
         let outer = self.ideals[i];
@@ -72,9 +75,11 @@ impl<K: Kind, L: Kind, S: Scale> Pass<'_, K, L, S> {
         requires listed { i < length self.old.ideals.now }
         requires room { HasRoom self.old tables.old }
         requires stand { Filled (setting_of self.old) self.old.rows.counts.k self.old.rows.counts.l i (cells_in self.old tables.old) }
+        requires fall { FallBefore self.old tables.old i }
         ensures same { SamePass self.old self.new }
         ensures lent { SameTables tables.old tables.new }
         ensures rows { RowTurns self.old tables.old tables.new i (reached (setting_of self.old) i i) }
+        ensures falls { RowFalls self.old tables.new i }
     {
         let at = self.row_at(i);
         self.rows.clear(tables, at).unwrap();

@@ -8,6 +8,7 @@ use Rattle.split.specs.Problems.{net_of}
 use Rattle.recurrence.specs.Table.{one, two, cut}
 use Rattle.cells.specs.Rows.{width_of}
 use Rattle.cells.specs.Tables.{table}
+use Rattle.cells.proofs.Stops.{falls_both, fair_answered}
 use Rattle.table_pass.specs.Passes.{setting_of}
 use Rattle.table_pass.proofs.Rows.{rows_fit_in, cut_asked, offered_cut}
 use Rattle.table_pass.proofs.passes.Pass.offer_ideal.Goals as goal
@@ -42,4 +43,15 @@ returns-clause-rows g c =
     (table s t) (table s c.offer.new.tables) c.row_at-from.ensures c.row_at-to.ensures
     (cut_asked test (first (figures_of n mask)) (answered c.load-x.result) within (c.load-x.ensures ∙ ap first measured))
     (cut_asked test (second (figures_of n mask)) (answered c.load-y.result) within (c.load-y.ensures ∙ ap second measured))
-    (IfOk-at_ok (λ _. _) c.unwrap.ensures c.offer.ensures.offers)
+    (IfOk-at_ok (λ _. _) c.unwrap.ensures c.offer.ensures.offers (rw (c.row_at-from.ensures, c.row_at-to.ensures) (c.requires.falls, c.requires.holds)))
+
+pub returns-clause-holds : goal.returns-clause-holds
+returns-clause-holds g c =
+    let p = c.args.self.now in
+    let scale = p.rows.scale.now in
+    let s = g.S.Scale.rules scale in
+    let law = g.met.S.Scale in
+    let done = IfOk-at_ok (λ _. _) c.unwrap.ensures c.offer.ensures.offers (rw (c.row_at-from.ensures, c.row_at-to.ensures) (c.requires.falls, c.requires.holds)) in
+    rw c.row_at-to.ensures at (falls_both s (law.total scale) (law.transitive scale) c.args.j (answered c.load-x.result) (answered c.load-y.result)
+        (λ x is y z. law.monotone scale y z x (fair_answered c.load-x.result x is)) (λ x is y z. law.monotone scale y z x (fair_answered c.load-y.result x is))
+        c.row_at-from.result c.row_at-to.result p.rows.counts.k p.rows.counts.l (table s c.args.tables.now) (table s c.offer.new.tables) (rw (c.row_at-from.ensures, c.row_at-to.ensures) (c.requires.falls, c.requires.holds)) done)
