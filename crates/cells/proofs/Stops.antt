@@ -1,6 +1,7 @@
 -- Where offers may stop: the rest of a line, or of a row, stays as it is.
-use Rattle.std.proofs.Common.{◌≡◌, ℕ, zero, suc, ◌+◌, ◌-◌, ◌*◌, ◌<◌, ◌≤◌, Bool, true, false, Some, None, Option, ◌⊎◌, sym, refl, ap, ◌∙◌, subst, ⊎_elim, suc-mul, add-mul, arith}
-use Rattle.std.proofs.lemmas.Bool.{cases_lt}
+use Rattle.std.proofs.Common.{◌≡◌, ℕ, zero, suc, ◌+◌, ◌-◌, ◌*◌, ◌<◌, ◌≤◌, Bool, true, false, not, ◌&&◌, Some, None, Option, ◌⊎◌, sym, refl, ap, ◌∙◌, subst, ⊎_elim, suc-mul, add-mul, arith}
+use Rattle.std.specs.Prelude.{◌==◌}
+use Rattle.std.proofs.lemmas.Bool.{cases_lt, ne_eqb, or_parts}
 use Rattle.device.specs.Loads.{PlainLoad, Fair}
 use Rattle.device.specs.Views.{load_of, answered}
 use Rattle.device.specs.declared.loads.Load.{Load}
@@ -11,7 +12,7 @@ use Rattle.cells.specs.declared.choices.Choice.{Choice}
 use Rattle.cells.specs.declared.rows.Runs.{Runs}
 use Rattle.cells.specs.Cells.{Cell, choice_of, stands, offered, shifted}
 use Rattle.cells.specs.Rows.{place, width_of, row, by_first, runs_of, first, second, on, both, Onto}
-use Rattle.cells.specs.Falls.{holds, candidate, settled, Falls, Fall, Bounded}
+use Rattle.cells.specs.Falls.{holds, leads_on, candidate, settled, Falls, Fall, Bounded}
 use Rattle.cells.proofs.Falls.{AtLeast, settled_then, settled_kept, candidate_bounds, nothing_kept, no_worse_then, no_worse_offered, no_worse_both}
 use Rattle.cells.proofs.RowSteps.{line_le, lines_led, shifted_at, shifted_under, shifted_over}
 
@@ -174,6 +175,25 @@ module _ {R : Type 0} (s : Rules R) where
     same_none First j from (suc a) b c = refl
     same_none Second j from a zero c = refl
     same_none Second j from a (suc b) c = refl
+
+    -- where neither kind leads on from a row, no offer of it changes a cell
+    module _ (j from to k l : ℕ) (t : ℕ → Cell R) (falls : Fall s k l j from to t) (none : leads_on k l j (row l from t) ≡ false) where
+      neither : ((not (k == 0) && stands (by_first j) (row l from t (k - 1) l)) ≡ false) × ((not (l == 0) && stands (by_first j) (row l from t k (l - 1))) ≡ false)
+      neither = or_parts (not (k == 0) && stands (by_first j) (row l from t (k - 1) l)) (not (l == 0) && stands (by_first j) (row l from t k (l - 1))) none
+
+      idle_on : (w : WhichKind) (o : Option PlainLoad) (a b : ℕ) → a < k + 1 → b ≤ l → on s w j o (row l from t) a b (t (to + place l a b)) ≡ t (to + place l a b)
+      idle_on w None a b h h' = same_none w j (row l from t) a b (t (to + place l a b))
+      idle_on First (Some x) zero b h h' = refl
+      idle_on First (Some x) (suc a) b h h' =
+          let last : stands (choice_of j First) (t (from + place l (k - 1) l)) ≡ false = rw (ne_eqb k 0 (λ e. omega arith)) at neither.0 in
+          nothing_kept s total transitive (choice_of j First) x (t (from + place l a b)) (t (from + place l (k - 1) l)) (t (to + place l (suc a) b)) (rw last refl) (falls.0 a b (k - 1) l (omega arith) (omega arith) (omega arith) (omega arith))
+      idle_on Second (Some x) a zero h h' = refl
+      idle_on Second (Some x) a (suc b) h h' =
+          let last : stands (choice_of j Second) (t (from + place l k (l - 1))) ≡ false = rw (ne_eqb l 0 (λ e. omega arith)) at neither.1 in
+          nothing_kept s total transitive (choice_of j Second) x (t (from + place l a b)) (t (from + place l k (l - 1))) (t (to + place l a (suc b))) (rw last refl) (falls.0 a b k (l - 1) (omega arith) (omega arith) (omega arith) (omega arith))
+
+      pub idle : (x y : Option PlainLoad) → Onto l (k + 1) to (both s j x y (row l from t)) t t
+      idle x y = onto_same (both s j x y (row l from t)) (k + 1) l to t (λ a b h h'. ap (second s j y (row l from t) a b) (idle_on First x a b h h') ∙ idle_on Second y a b h h')
 
     -- joining a load of these keeps the order
     abbrev pub Steady : Option PlainLoad → Type 0

@@ -4,15 +4,19 @@
 --   settled s r c        a rating that is at most r stands in the cell c
 --   NoWorse s p c d      where c passes p, d does too, and its rating is at most that of c
 --   Falls s p l n row    of the first n lines of the row no cell is worse than one with no more devices of either kind
+--   leads_on k l j row   in the row of ideal j a rating stands in the last cell from which a stage of one kind or the other leads on
 --   Fall                 so do the rows at f, of ideal j, and at t, with all their lines
 --   Bounded              the n cells from f on give no candidate below r to those from t on, and of these none is worse than one before
 --   Around w t t₀ t₁     from t₀ to t₁ no cell changed but the w cells from t on
-use Rattle.std.specs.Prelude.{◌≡◌, ℕ, ◌+◌, ◌<◌, ◌≤◌, Bool, true, cond, not, ◌&&◌, ◌==◌, Some, None, Option}
+use Rattle.std.specs.Prelude.{◌≡◌, ℕ, ◌+◌, ◌-◌, ◌<◌, ◌≤◌, Bool, true, cond, not, ◌&&◌, ◌||◌, ◌==◌, Some, None, Option}
 use Rattle.device.specs.Loads.{PlainLoad}
 use Rattle.scale.specs.Rules.{Rules}
 use Rattle.cells.specs.declared.choices.Choice.{Choice}
 use Rattle.cells.specs.Cells.{Cell, stands}
 use Rattle.cells.specs.Rows.{by_first, row}
+
+abbrev pub leads_on : {R : Type 0} → ℕ → ℕ → ℕ → (ℕ → ℕ → Cell R) → Bool
+leads_on k l j row = (not (k == 0) && stands (by_first j) (row (k - 1) l)) || (not (l == 0) && stands (by_first j) (row k (l - 1)))
 
 abbrev pub holds : {R : Type 0} → Cell R → Bool
 holds c = not (c.choice.kind == 0)

@@ -47,6 +47,13 @@ impl<'a, S: Scale> Rows<'a, S> {
         }
     }
 
+    // How many devices there are of each kind.
+    pub fn counts(&self) -> Counts
+        ensures { result ≡ self.now.counts }
+    {
+        self.counts
+    }
+
     // How many cells a line has.
     fn line(&self) -> usize
         ensures { result ≡ self.now.counts.l + 1 }

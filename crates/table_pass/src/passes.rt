@@ -2,7 +2,8 @@ ghost use Rattle.std.specs.Prelude.{◌≡◌, ◌*◌, ◌<◌, ◌≤◌, true
 ghost use Rattle.sets.specs.Sets.{inside};
 ghost use Rattle.split.specs.Problems.{net_of};
 ghost use Rattle.stage_memo.specs.Views.{memo_net};
-ghost use Rattle.cells.specs.Rows.{width_of};
+ghost use Rattle.cells.specs.Rows.{width_of, row};
+ghost use Rattle.cells.specs.Falls.{leads_on};
 ghost use Rattle.cells.specs.Tables.{SameTables};
 
 use cells::{Rows, Tables};
@@ -47,7 +48,23 @@ impl<K: Kind, L: Kind, S: Scale> Pass<'_, K, L, S> {
         Some(from + steps)
     }
 
-    // Offers the row of ideal `j`, which lies inside ideal `i`, to that of `i`: the stage between them is measured once, and each kind is asked once.
+    // Whether a stage leads on from the row of ideal `j`, at `from`, to a later row: from the cells of the most devices, if from any.
+    fn leads_on(&self, tables: &Tables<'_, S::Rating>, j: usize, from: usize) -> bool
+        requires listed { j < length self.now.ideals.now }
+        requires place { from ≡ j * width_of self.now.rows.counts.k self.now.rows.counts.l }
+        requires room { HasRoom self.now tables.now }
+        ensures { result ≡ leads_on self.now.rows.counts.k self.now.rows.counts.l j (row self.now.rows.counts.l (j * width_of self.now.rows.counts.k self.now.rows.counts.l) (cells_in self.now tables.now)) }
+    {
+        let counts = self.rows.counts();
+        let last = from + self.rows.width() - 1;
+        // of the first kind it leads to the next line, of the second to the next cell
+        let line = usize::from(counts.l) + 1;
+        let first = counts.k > 0 && (j == 0 || !tables.choices[last - line].is_none());
+        let second = counts.l > 0 && (j == 0 || !tables.choices[last - 1].is_none());
+        first || second
+    }
+
+    // Offers the row of ideal `j`, which lies inside ideal `i`, to that of `i`: where it leads on at all, the stage between them is measured once, and each kind is asked once.
     fn offer_ideal(&mut self, tables: &mut Tables<'_, S::Rating>, i: usize, j: usize)
         requires before { j < i }
         requires listed { i < length self.old.ideals.now }
@@ -60,12 +77,15 @@ impl<K: Kind, L: Kind, S: Scale> Pass<'_, K, L, S> {
         ensures rows { RowTurns self.old tables.old tables.new i (offered_row self.old tables.old i j) }
         ensures holds { RowHolds self.old tables.new i }
     {
+        let from = self.row_at(j);
+        if !self.leads_on(tables, j, from) {
+            return;
+        }
         let inner = self.ideals[j];
         let outer = self.ideals[i];
         let figures = self.memo.figures(outer - inner);
         let x = self.problem.first.load(&figures);
         let y = self.problem.second.load(&figures);
-        let from = self.row_at(j);
         let to = self.row_at(i);
         self.rows.offer(tables, from, to, j as u32, &x, &y).unwrap();
     }

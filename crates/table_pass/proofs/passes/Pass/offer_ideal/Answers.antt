@@ -1,4 +1,4 @@
-use Rattle.std.proofs.Common.{◌-◌, ◌*◌, length, get_or, ap, ◌∙◌}
+use Rattle.std.proofs.Common.{◌-◌, ◌*◌, length, get_or, sym, ap, ◌∙◌, arith}
 use Rattle.std.proofs.lemmas.Result.{IfOk-at_ok}
 use Rattle.sets.specs.Sets.{inside}
 use Rattle.sheet.specs.Nets.{Net}
@@ -8,10 +8,22 @@ use Rattle.split.specs.Problems.{net_of}
 use Rattle.recurrence.specs.Table.{one, two, cut}
 use Rattle.cells.specs.Rows.{width_of}
 use Rattle.cells.specs.Tables.{table}
-use Rattle.cells.proofs.Stops.{falls_both, fair_answered}
+use Rattle.cells.proofs.Stops.{idle, falls_both, fair_answered}
 use Rattle.table_pass.specs.Passes.{setting_of}
-use Rattle.table_pass.proofs.Rows.{rows_fit_in, cut_asked, offered_cut}
+use Rattle.table_pass.proofs.Rows.{row_fits_in, rows_fit_in, cut_asked, offered_cut}
 use Rattle.table_pass.proofs.passes.Pass.offer_ideal.Goals as goal
+
+pub returns-then-not-leads_on-clause-rows : goal.returns-then-not-leads_on-clause-rows
+returns-then-not-leads_on-clause-rows g c =
+    let p = c.args.self.now in
+    let scale = p.rows.scale.now in
+    let s = g.S.Scale.rules scale in
+    let law = g.met.S.Scale in
+    let e = setting_of p in
+    let k = p.rows.counts.k in
+    let l = p.rows.counts.l in
+    let w = width_of k l in
+    idle s (law.total scale) (law.transitive scale) c.args.j (c.args.j * w) (c.args.i * w) k l (table s c.args.tables.now) (c.requires.falls, c.requires.holds) (sym c.leads_on.ensures ∙ c.if-not-leads_on.true) (cut e one 0 0 c.args.i c.args.j) (cut e two 0 0 c.args.i c.args.j)
 
 pub unwrap-requires : goal.unwrap-requires
 unwrap-requires g c =
