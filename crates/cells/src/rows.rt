@@ -114,20 +114,21 @@ impl<'a, S: Scale> Rows<'a, S> {
         if runs.count == 0 || runs.cells == 0 {
             return;
         }
-        let last = from + (runs.count - 1) * self.line() + runs.cells - 1;
+        let line = self.line();
+        let last = from + (runs.count - 1) * line + runs.cells - 1;
         let Some(bound) = tables.candidate(self.scale, last, choice, load) else {
             return;
         };
         // the lines of a row by number, since they begin at its multiples in the two tables
         for r in 0..runs.count {
-            let line = r * self.line();
-            if tables.is_settled(self.scale, to + line + runs.step, bound) {
+            let at = r * line;
+            if tables.is_settled(self.scale, to + at + runs.step, bound) {
                 return;
             }
             tables.shift(
                 self.scale,
-                from + line,
-                to + line + runs.step,
+                from + at,
+                to + at + runs.step,
                 runs.cells,
                 choice,
                 load,
@@ -152,6 +153,7 @@ impl<'a, S: Scale> Rows<'a, S> {
 
     // Offers the row at `from`, of an ideal, to the row at `to`: with a stage of the load `x` on kind 1, then with one of the load `y` on kind 2.
     // Where both rows fall, as those of a table that is filled row by row do, each cell of the second becomes what both offers make of it. Cells outside it never change.
+    #[inline(never)]
     pub fn offer(
         &self,
         tables: &mut Tables<'_, S::Rating>,
@@ -172,8 +174,12 @@ impl<'a, S: Scale> Rows<'a, S> {
             return Err(RowError::Overlaps);
         }
         self.check_room(tables, to)?;
-        self.offer_on(tables, from, to, ideal, WhichKind::First, x);
-        self.offer_on(tables, from, to, ideal, WhichKind::Second, y);
+        let mut lent = Tables {
+            ratings: &mut *tables.ratings,
+            choices: &mut *tables.choices,
+        };
+        self.offer_on(&mut lent, from, to, ideal, WhichKind::First, x);
+        self.offer_on(&mut lent, from, to, ideal, WhichKind::Second, y);
         Ok(())
     }
 

@@ -19,4 +19,5 @@ returns-clause-offers g c falls =
     let apart : c.args.from + width_of k l ≤ c.args.to = search rules in
     let once = c.offer_on.ensures.offers falls in
     let again = fall_then s (law.total p.scale.now) (law.transitive p.scale.now) First c.args.ideal (answered c.args.x.now) (λ x is y z. law.monotone p.scale.now y z x (fair_answered c.args.x.now x is)) c.args.from c.args.to k l t u apart falls once in
-    onto_both s c.args.ideal (answered c.args.x.now) (answered c.args.y.now) c.args.from c.args.to (k + 1) l t u (table s c.offer_on-2.new.tables) apart once (c.offer_on-2.ensures.offers again)
+    let done = onto_both s c.args.ideal (answered c.args.x.now) (answered c.args.y.now) c.args.from c.args.to (k + 1) l t u (table s c.offer_on-2.new.tables) apart once (c.offer_on-2.ensures.offers again) in
+    search (rules, done)

@@ -18,7 +18,7 @@ returns-in_default-candidate-clause-offers g c falls =
     let w = c.args.kind in
     let x = load_of c.in-Some.load in
     let is = ap answered c.in-Some.is in
-    let none : candidate s c.of-choice.result x (t (last_of c.args.from l c.runs-runs.result)) ≡ None = rw (c.line.ensures) at (sym c.candidate.ensures ∙ c.in_default-candidate.is) in
+    let none : candidate s c.of-choice.result x (t (last_of c.args.from l c.runs-runs.result)) ≡ None = rw (c.line-line.ensures) at (sym c.candidate.ensures ∙ c.in_default-candidate.is) in
     rw is (onto_same s (on s w c.args.ideal (Some x) (row l c.args.from t)) (k + 1) l c.args.to t
         (λ a b h h'. vain s (law.total p.scale.now) (law.transitive p.scale.now) c.args.ideal x c.args.from c.args.to k l c.runs-runs.result t falls w c.runs-runs.ensures (rw c.of-choice.ensures at none) a b (omega arith) h h'))
 
@@ -27,7 +27,7 @@ is_settled-requires g c =
     let ends = run_le c.args.kind c.args.self.now.counts.k c.args.self.now.counts.l c.loop-r.r c.runs-runs.result c.runs-runs.ensures c.loop-r-test.true in
     let some : 0 < c.runs-runs.result.cells = omega (arith, c.if-runs-eq0-2.false) in
     let same = c.loop-r.invariant.same in
-    rw (c.line-in-loop-r.ensures, same.ratings_length, same.choices_length) (omega arith, omega arith)
+    rw (c.line-line.ensures, same.ratings_length, same.choices_length) (omega arith, omega arith)
 
 pub returns-then-is_settled-clause-offers : goal.returns-then-is_settled-clause-offers
 returns-then-is_settled-clause-offers g c falls =
@@ -45,8 +45,8 @@ returns-then-is_settled-clause-offers g c falls =
     let is = ap answered c.in-Some.is in
     let some : 0 < c.runs-runs.result.cells = omega (arith, c.if-runs-eq0-2.false) in
     let done = c.loop-r.invariant.offered falls in
-    let found = rw (c.of-choice.ensures, c.line.ensures) at (sym c.candidate.ensures ∙ c.in-Some-candidate.is) in
-    let stop = rw c.line-in-loop-r.ensures at (sym c.is_settled.ensures ∙ c.if-is_settled.true) in
+    let found = rw (c.of-choice.ensures, c.line-line.ensures) at (sym c.candidate.ensures ∙ c.in-Some-candidate.is) in
+    let stop = rw c.line-line.ensures at (sym c.is_settled.ensures ∙ c.if-is_settled.true) in
     let same : u (c.args.to + r * (l + 1) + runs.step) ≡ t (c.args.to + r * (l + 1) + runs.step) = done.above _ (first_past w k l r c.args.to runs c.runs-runs.ensures) in
     onto_rest s (on s w c.args.ideal (answered c.args.load.now) (row l c.args.from t)) (lines_led w r) (k + 1) l c.args.to t u (led_le w k l r runs c.runs-runs.ensures c.loop-r-test.true)
         (rw is (stays s (law.total p.scale.now) (law.transitive p.scale.now) c.args.ideal x c.args.from c.args.to k l runs t falls (λ y z. law.monotone p.scale.now y z x c.in-Some.load.fair) c.in-Some-candidate.bound w c.runs-runs.ensures found r c.loop-r-test.true some (sym (ap (settled s c.in-Some-candidate.bound) same) ∙ stop)))
@@ -67,9 +67,9 @@ loop-r-preserved g c =
     let x = load_of c.in-Some.load in
     let is = ap answered c.in-Some.is in
     let ends = run_le w k l r runs c.runs-runs.ensures c.loop-r-test.true in
-    let found = rw (c.of-choice.ensures, c.line.ensures) at (sym c.candidate.ensures ∙ c.in-Some-candidate.is) in
-    let around = rw c.line-in-loop-r.ensures at c.shift.ensures.around in
-    let turns = rw (c.of-choice.ensures, c.line-in-loop-r.ensures) at c.shift.ensures.turns in
+    let found = rw (c.of-choice.ensures, c.line-line.ensures) at (sym c.candidate.ensures ∙ c.in-Some-candidate.is) in
+    let around = rw c.line-line.ensures at c.shift.ensures.around in
+    let turns = rw (c.of-choice.ensures, c.line-line.ensures) at c.shift.ensures.turns in
     record {
       same = search rules;
       around = record {
@@ -86,7 +86,7 @@ pub shift-requires-clause-room : goal.shift-requires-clause-room
 shift-requires-clause-room g c =
     let ends = run_le c.args.kind c.args.self.now.counts.k c.args.self.now.counts.l c.loop-r.r c.runs-runs.result c.runs-runs.ensures c.loop-r-test.true in
     let same = c.loop-r.invariant.same in
-    rw (c.line-in-loop-r.ensures, same.ratings_length, same.choices_length) (omega arith, omega arith)
+    rw (c.line-line.ensures, same.ratings_length, same.choices_length) (omega arith, omega arith)
 
 pub returns-clause-offers : goal.returns-clause-offers
 returns-clause-offers g c falls =
