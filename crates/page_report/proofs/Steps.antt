@@ -1,5 +1,5 @@
 -- What is told of a load and a plan that are made on a new planner, and what stands then.
-use Rattle.std.proofs.Common.{◌≡◌, ℕ, true, List, [], ◌∷◌, length, map, get_or, is_some, Option, None, Some, IfSome, Result, Ok, Err, refl, sym, ap, ◌∙◌, subst, arith}
+use Rattle.std.proofs.Common.{◌≡◌, ℕ, true, List, [], ◌∷◌, length, map, get_or, slice_index_or, is_some, Option, None, Some, IfSome, Result, Ok, Err, refl, sym, ap, ◌∙◌, subst, arith}
 use Rattle.std.specs.List.{All}
 use Rattle.std.specs.Borrow.{Bor}
 use Rattle.refusals.specs.declared.Refusal.{Refusal}
@@ -9,9 +9,12 @@ use Rattle.refusals.proofs.Tellings.{told_something}
 use Rattle.sheet.specs.Nets.{empty}
 use Rattle.sheet.specs.Changes.{changed}
 use Rattle.sheet_layout.specs.Bodies.{file_refusal, net_of}
+use Rattle.device.specs.declared.accelerators.Accelerator.{Accelerator}
+use Rattle.device.specs.Loads.{accelerated, processed}
 use Rattle.scale.specs.Rules.{Rules}
+use Rattle.scale.specs.Scales.{peak}
 use Rattle.split.specs.declared.stages.Stage.{Stage}
-use Rattle.split.specs.Splits.{Kinds, Lawful, Least}
+use Rattle.split.specs.Splits.{Kinds, kinds, Lawful, Least}
 use Rattle.recurrence.specs.Planned.{split_of}
 use Rattle.best_split.specs.Finds.{find_refusal}
 use Rattle.planner.specs.declared.calls.Call.{Call}
@@ -22,7 +25,7 @@ use Rattle.planner.specs.States.{Standing, State}
 use Rattle.planner.specs.Law.{Event, event, present, plan_after, rating_by, Holds}
 use Rattle.planner.specs.Answers.{rating_answer}
 use Rattle.planner.specs.Runs.{call_of, history}
-use Rattle.page_report.specs.SplitPages.{told_in, refused_in}
+use Rattle.page_report.specs.SplitPages.{devices, told_in, refused_in}
 
 some_standing : {R : Type 0} (o : Option (Standing R)) (z : R) → rating_answer o ≡ Ok z → (t : Standing R) × (o ≡ Some t)
 some_standing None z h = absurd (cc)
@@ -30,7 +33,7 @@ some_standing (Some t) z h = (t, refl)
 
 module _ {K L S R : Type 0} (e : Kinds) (s : Rules R) (f : Bor (List ℕ)) (p : State K L S R) where
   -- by what is told of the load, and of the plan
-  pub record Ran (load plan : List ℕ) : Type 0 where
+  pub record Stepped (load plan : List ℕ) : Type 0 where
     pub loads : load ≡ file_refusal f.now
     pub plans : load ≡ [] → plan ≡ find_refusal (net_of f.now) e s 512 4096 4096
     pub none : load ≡ [] → plan ≡ told NoLawfulSplit → (ss : List Stage) → Lawful (net_of f.now) e ss → ⊥
@@ -61,8 +64,8 @@ module _ {K L S R : Type 0} (e : Kinds) (s : Rules R) (f : Bor (List ℕ)) (p : 
         subst (λ n. Least n e s t.stages t.rating) (now r (Ok g) a b) kept.1,
       )
 
-  ran_both : (r q : Result (Granted R) Refusal) → Holds e s (both r q) p → Ran (outcome r) (outcome q)
-  ran_both r q held = record {
+  stepped_both : (r q : Result (Granted R) Refusal) → Holds e s (both r q) p → Stepped (outcome r) (outcome q)
+  stepped_both r q held = record {
     loads = held.answered.1.0.0;
     plans = λ a. subst (λ n. outcome q ≡ find_refusal n e s 512 4096 4096) (loaded r a) held.answered.0.refuses;
     none = λ a b ss lawful. held.answered.0.none b ss (subst (λ n. Lawful n e ss) (sym (loaded r a)) lawful);
@@ -73,18 +76,38 @@ module _ {K L S R : Type 0} (e : Kinds) (s : Rules R) (f : Bor (List ℕ)) (p : 
   -- the history of two steps
   module _ (x y : Step R) (i : x.call ≡ calls.Load f) (j : y.call ≡ calls.Plan 512 4096 4096) where
     answered : (a b : Option (Result (Granted R) Refusal)) → x.answer ≡ a → y.answer ≡ b → is_some a ≡ true → is_some b ≡ true
-        → Holds e s (history 512 4096 4096 (x ∷ y ∷ [])) p → Ran (refused_in x) (refused_in y)
+        → Holds e s (history 512 4096 4096 (x ∷ y ∷ [])) p → Stepped (refused_in x) (refused_in y)
     answered None b k l m n held = absurd (cc)
     answered (Some r) None k l m n held = absurd (cc)
     answered (Some r) (Some q) k l m n held =
         let events : history 512 4096 4096 (x ∷ y ∷ []) ≡ both r q = rw (k, l, i, j) refl in
-        subst (λ u. Ran u (refused_in y)) (sym (ap told_in k)) (subst (λ u. Ran (outcome r) u) (sym (ap told_in l)) (ran_both r q (subst (λ h. Holds e s h p) events held)))
+        subst (λ u. Stepped u (refused_in y)) (sym (ap told_in k)) (subst (λ u. Stepped (outcome r) u) (sym (ap told_in l)) (stepped_both r q (subst (λ h. Holds e s h p) events held)))
 
-  pub ran : (a b c : ℕ) → a ≡ 512 → b ≡ 4096 → c ≡ 4096 → (xs : List (Step R)) (d : Step R) → map call_of xs ≡ calls.Load f ∷ calls.Plan 512 4096 4096 ∷ [] → All (λ (x : Step R). is_some x.answer ≡ true) xs
-      → Holds e s (history a b c xs) p → Ran (refused_in (get_or xs 0 d)) (refused_in (get_or xs 1 d))
-  ran a b c i j k [] d same all held = absurd (let z = ap length same in omega (arith, z))
-  ran a b c i j k (x ∷ []) d same all held = absurd (let z = ap length same in omega (arith, z))
-  ran a b c i j k (x ∷ y ∷ []) d same all held =
-      let l : Holds e s (history 512 4096 4096 (x ∷ y ∷ [])) p = rw (i, j, k) at held in
-      answered x y (ap (λ (cs : List Call). get_or cs 0 calls.Clear) same) (ap (λ (cs : List Call). get_or cs 1 calls.Clear) same) x.answer y.answer refl refl (all 0 d (omega arith)) (all 1 d (omega arith)) l
-  ran a b c i j k (x ∷ y ∷ z ∷ xs) d same all held = absurd (let w = ap length same in omega (arith, w))
+  pub stepped : (xs : List (Step R)) (d : Step R) → map call_of xs ≡ calls.Load f ∷ calls.Plan 512 4096 4096 ∷ [] → All (λ (x : Step R). is_some x.answer ≡ true) xs
+      → Holds e s (history 512 4096 4096 xs) p → Stepped (refused_in (get_or xs 0 d)) (refused_in (get_or xs 1 d))
+  stepped [] d same all held = absurd (let z = ap length same in omega (arith, z))
+  stepped (x ∷ []) d same all held = absurd (let z = ap length same in omega (arith, z))
+  stepped (x ∷ y ∷ []) d same all held =
+      answered x y (ap (λ (cs : List Call). get_or cs 0 calls.Clear) same) (ap (λ (cs : List Call). get_or cs 1 calls.Clear) same) x.answer y.answer refl refl (all 0 d (omega arith)) (all 1 d (omega arith)) held
+  stepped (x ∷ y ∷ z ∷ xs) d same all held = absurd (let w = ap length same in omega (arith, w))
+
+-- what is read where no step is
+abbrev no_step : Step ℕ
+no_step = record { call = calls.Add (record { acc = 0; cpu = 0; size = 0; link = 0 }); answer = None }
+
+-- what is told of the load, and of the plan
+module _ (xs : List (Step ℕ)) where
+  abbrev pub load : List ℕ
+  load = refused_in (slice_index_or xs 0 no_step)
+
+  abbrev pub plan : List ℕ
+  plan = refused_in (slice_index_or xs 1 no_step)
+
+-- the kinds of a planner whose accelerator has the limit 1,000,000
+pub limited : {a b : Accelerator} → a ≡ b → b.limit ≡ 1000000 → kinds (accelerated a.limit) processed ≡ devices
+limited same is = ap (λ (l : ℕ). kinds (accelerated l) processed) (ap (λ (a : Accelerator). a.limit) same ∙ is)
+
+-- the two steps on these kinds, on the scale peak
+pub steps_of : {K L S : Type 0} {e : Kinds} {f : Bor (List ℕ)} {p : State K L S ℕ} (xs : List (Step ℕ)) → e ≡ devices → Holds e peak (history 512 4096 4096 xs) p
+    → map call_of xs ≡ calls.Load f ∷ calls.Plan 512 4096 4096 ∷ [] → All (λ (x : Step ℕ). is_some x.answer ≡ true) xs → Stepped devices peak f p (load xs) (plan xs)
+steps_of {f} {p} xs same law made all = stepped devices peak f p xs no_step made all (subst (λ e. Holds e peak (history 512 4096 4096 xs) p) same law)

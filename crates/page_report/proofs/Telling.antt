@@ -1,5 +1,5 @@
 -- What is told of a file and of the plan of its sheet, by what is told of the two steps.
-use Rattle.std.proofs.Common.{◌≡◌, ℕ, ◌≤◌, true, List, [], ◌∷◌, ◌++◌, length, codes, decimal, slice_index, is_some, Option, refl, ap, ◌∙◌, subst, nat_le, arith, le-leb}
+use Rattle.std.proofs.Common.{◌≡◌, ℕ, ◌≤◌, true, List, [], ◌∷◌, ◌++◌, length, codes, decimal, slice_index, is_some, Option, refl, sym, ap, ◌∙◌, subst, nat_le, arith, le-leb}
 use Rattle.std.proofs.lemmas.List.{length-take}
 use Rattle.std.specs.Borrow.{Bor}
 use Rattle.refusals.specs.declared.Refusal.{Refusal}
@@ -16,10 +16,10 @@ use Rattle.pages.specs.Pages.{most_page, HasPage}
 use Rattle.planner.specs.States.{Standing, State}
 use Rattle.planner.specs.Answers.{page_text, page_told}
 use Rattle.page_report.specs.SplitPages.{devices, planning, split_refusal, split_text, unless_refused, Means}
-use Rattle.page_report.proofs.Steps.{Ran}
+use Rattle.page_report.proofs.Steps.{Stepped}
 
 -- two checks
-pub first_stays : (a b : List ℕ) → (a ≡ [] → ⊥) → first a b ≡ a
+first_stays : (a b : List ℕ) → (a ≡ [] → ⊥) → first a b ≡ a
 first_stays [] b h = absurd (h refl)
 first_stays (x ∷ a) b h = refl
 
@@ -31,9 +31,15 @@ same_first : (a b c : List ℕ) → (a ≡ [] → b ≡ c) → first a b ≡ fir
 same_first [] b c h = h refl
 same_first (x ∷ a) b c h = refl
 
-module _ {K L S : Type 0} (f : Bor (List ℕ)) (p : State K L S ℕ) (load plan : List ℕ) (r : Ran devices peak f p load plan) where
-  pub told_split : first load plan ≡ split_refusal f.now
+module _ {K L S : Type 0} {f : Bor (List ℕ)} {p : State K L S ℕ} {load plan : List ℕ} (r : Stepped devices peak f p load plan) where
+  told_split : first load plan ≡ split_refusal f.now
   told_split = same_first load plan (planning (net_of f.now)) r.plans ∙ ap (λ a. first a (planning (net_of f.now))) r.loads
+
+  pub load_refused : {ts : List ℕ} (x : Refusal) → told x ≡ load → ts ≡ load → ts ≡ split_refusal f.now
+  load_refused x some is = is ∙ sym (first_stays load plan (λ z. told_something x (some ∙ z))) ∙ told_split
+
+  pub plan_refused : {ts : List ℕ} → [] ≡ load → ts ≡ plan → ts ≡ split_refusal f.now
+  plan_refused none is = is ∙ ap (λ a. first a plan) none ∙ told_split
 
   pub means : LawsStand → Means f.now
   means laws = record {
@@ -46,14 +52,12 @@ module _ {K L S : Type 0} (f : Bor (List ℕ)) (p : State K L S ℕ) (load plan 
     none = λ a b. let z = r.loads ∙ a in r.none z (r.plans z ∙ b);
   }
 
-  module _ (a : load ≡ []) (b : plan ≡ []) where
-    pub stands : is_some p.standing ≡ true
-    stands = ap (λ (o : Option (Standing ℕ)). is_some o) (r.stands a b).1
-
-    pub text : (e : Kinds) → e ≡ devices → page_text p.net e p.standing ≡ split_text f.now
-    text e same =
-        let t = r.stands a b in
-        ap (λ (o : Option (Standing ℕ)). page_text p.net e o) t.1 ∙ rw (r.net a b, same, t.2) refl
+  pub planned : {e : Kinds} → [] ≡ load → [] ≡ plan → e ≡ devices → (is_some p.standing ≡ true) × (page_text p.net e p.standing ≡ split_text f.now)
+  planned {e} a b same =
+      let t = r.stands (sym a) (sym b) in (
+        ap (λ (o : Option (Standing ℕ)). is_some o) t.1,
+        ap (λ (o : Option (Standing ℕ)). page_text p.net e o) t.1 ∙ rw (r.net (sym a) (sym b), same, t.2) refl,
+      )
 
 -- the page of a split that stands, in a buffer for any page
 pub page_fits : (n : Net) (e : Kinds) (t : Option (Standing ℕ)) (room : ℕ) → is_some t ≡ true → length (page_text n e t) ≤ most_page → room ≡ most_page → page_told n e t room ≡ []
