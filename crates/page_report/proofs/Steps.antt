@@ -27,6 +27,18 @@ use Rattle.planner.specs.Answers.{rating_answer}
 use Rattle.planner.specs.Runs.{call_of, history}
 use Rattle.page_report.specs.SplitPages.{devices, told_in, refused_in}
 
+module _ {R : Type 0} where
+  -- what is read where no step is: the first of the calls, with noughts, and no answer
+  abbrev no_step : Step R
+  no_step = record { call = calls.Add (record { acc = 0; cpu = 0; size = 0; link = 0 }); answer = None }
+
+  -- what is told of the load, and of the plan
+  abbrev pub load : List (Step R) → List ℕ
+  load xs = refused_in (slice_index_or xs 0 no_step)
+
+  abbrev pub plan : List (Step R) → List ℕ
+  plan xs = refused_in (slice_index_or xs 1 no_step)
+
 some_standing : {R : Type 0} (o : Option (Standing R)) (z : R) → rating_answer o ≡ Ok z → (t : Standing R) × (o ≡ Some t)
 some_standing None z h = absurd (cc)
 some_standing (Some t) z h = (t, refl)
@@ -83,25 +95,13 @@ module _ {K L S R : Type 0} (e : Kinds) (s : Rules R) (f : Bor (List ℕ)) (p : 
         let events : history 512 4096 4096 (x ∷ y ∷ []) ≡ both r q = rw (k, l, i, j) refl in
         subst (λ u. Stepped u (refused_in y)) (sym (ap told_in k)) (subst (λ u. Stepped (outcome r) u) (sym (ap told_in l)) (stepped_both r q (subst (λ h. Holds e s h p) events held)))
 
-  pub stepped : (xs : List (Step R)) (d : Step R) → map call_of xs ≡ calls.Load f ∷ calls.Plan 512 4096 4096 ∷ [] → All (λ (x : Step R). is_some x.answer ≡ true) xs
-      → Holds e s (history 512 4096 4096 xs) p → Stepped (refused_in (get_or xs 0 d)) (refused_in (get_or xs 1 d))
-  stepped [] d same all held = absurd (let z = ap length same in omega (arith, z))
-  stepped (x ∷ []) d same all held = absurd (let z = ap length same in omega (arith, z))
-  stepped (x ∷ y ∷ []) d same all held =
-      answered x y (ap (λ (cs : List Call). get_or cs 0 calls.Clear) same) (ap (λ (cs : List Call). get_or cs 1 calls.Clear) same) x.answer y.answer refl refl (all 0 d (omega arith)) (all 1 d (omega arith)) held
-  stepped (x ∷ y ∷ z ∷ xs) d same all held = absurd (let w = ap length same in omega (arith, w))
-
--- what is read where no step is
-abbrev no_step : Step ℕ
-no_step = record { call = calls.Add (record { acc = 0; cpu = 0; size = 0; link = 0 }); answer = None }
-
--- what is told of the load, and of the plan
-module _ (xs : List (Step ℕ)) where
-  abbrev pub load : List ℕ
-  load = refused_in (slice_index_or xs 0 no_step)
-
-  abbrev pub plan : List ℕ
-  plan = refused_in (slice_index_or xs 1 no_step)
+  stepped : (xs : List (Step R)) → map call_of xs ≡ calls.Load f ∷ calls.Plan 512 4096 4096 ∷ [] → All (λ (x : Step R). is_some x.answer ≡ true) xs
+      → Holds e s (history 512 4096 4096 xs) p → Stepped (load xs) (plan xs)
+  stepped [] same all held = absurd (let z = ap length same in omega (arith, z))
+  stepped (x ∷ []) same all held = absurd (let z = ap length same in omega (arith, z))
+  stepped (x ∷ y ∷ []) same all held =
+      answered x y (ap (λ (cs : List Call). get_or cs 0 calls.Clear) same) (ap (λ (cs : List Call). get_or cs 1 calls.Clear) same) x.answer y.answer refl refl (all 0 x (omega arith)) (all 1 x (omega arith)) held
+  stepped (x ∷ y ∷ z ∷ xs) same all held = absurd (let w = ap length same in omega (arith, w))
 
 -- the kinds of a planner whose accelerator has the limit 1,000,000
 pub limited : {a b : Accelerator} → a ≡ b → b.limit ≡ 1000000 → kinds (accelerated a.limit) processed ≡ devices
@@ -110,4 +110,4 @@ limited same is = ap (λ (l : ℕ). kinds (accelerated l) processed) (ap (λ (a 
 -- the two steps on these kinds, on the scale peak
 pub steps_of : {K L S : Type 0} {e : Kinds} {f : Bor (List ℕ)} {p : State K L S ℕ} (xs : List (Step ℕ)) → e ≡ devices → Holds e peak (history 512 4096 4096 xs) p
     → map call_of xs ≡ calls.Load f ∷ calls.Plan 512 4096 4096 ∷ [] → All (λ (x : Step ℕ). is_some x.answer ≡ true) xs → Stepped devices peak f p (load xs) (plan xs)
-steps_of {f} {p} xs same law made all = stepped devices peak f p xs no_step made all (subst (λ e. Holds e peak (history 512 4096 4096 xs) p) same law)
+steps_of {e} {f} {p} xs same law made all = subst (λ e. Stepped e peak f p (load xs) (plan xs)) same (stepped e peak f p xs made all law)
