@@ -85,7 +85,7 @@ module _ {R : Type 0} (s : Rules R) where
   onto_more First j o x from to k l r runs t₀ t₁ t₂ is led h fit done e =
       let line = line_le r k (l + 1) (omega (arith, ap (λ v. v.count) led)) in
       rw is (onto_line (first s j (Some x) (row l from t₀)) (choice_of j First) x (from + r * (l + 1)) to (r + 1) l 0 (l + 1) t₀ t₁ t₂ (omega arith) (omega (arith, add-mul k 1 (l + 1)))
-          (λ b c h. absurd (omega arith)) offers (rw is at done) (λ c. (rw led at e) c ∙ ap (λ t. shifted s (choice_of j First) x (from + r * (l + 1)) t (l + 1) t₁ c) next))
+      (λ b c h. absurd (omega arith)) offers (rw is at done) (λ c. (rw led at e) c ∙ ap (λ t. shifted s (choice_of j First) x (from + r * (l + 1)) t (l + 1) t₁ c) next))
     where
       offers : (d : ℕ) (c : Cell R) → d < l + 1 → first s j (Some x) (row l from t₀) (r + 1) (0 + d) c ≡ offered s (choice_of j First) x (t₀ (from + r * (l + 1) + d)) c
       offers d c h =
@@ -99,7 +99,7 @@ module _ {R : Type 0} (s : Rules R) where
   onto_more Second j o x from to k l r runs t₀ t₁ t₂ is led h fit done e =
       let line = line_le r (k + 1) (l + 1) (omega (arith, ap (λ v. v.count) led)) in
       rw is (onto_line (second s j (Some x) (row l from t₀)) (choice_of j Second) x (from + r * (l + 1)) to r l 1 l t₀ t₁ t₂ (omega arith) (omega arith)
-          left offers (rw is at done) (rw led at e))
+      left offers (rw is at done) (rw led at e))
     where
       left : (b : ℕ) (c : Cell R) → b < 1 → second s j (Some x) (row l from t₀) r b c ≡ c
       left b c h = let none : b ≡ 0 = omega arith in rw none refl

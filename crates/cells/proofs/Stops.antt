@@ -70,9 +70,9 @@ module _ {R : Type 0} (s : Rules R) where
         at d q h = ⊎_elim
             (λ p. e k ∙ shifted_at s by x f t c t₀ k d q p ∙ sym (shifted_at s by x f t n t₀ k d q h))
             (λ p.
-                e k ∙ shifted_over s by x f t c t₀ k (omega arith)
-                ∙ sym (settled_kept s total transitive by x r (t₀ (f + d)) (t₀ k) (bounded.offers d h) (ap (λ i. settled s r (t₀ i)) q ∙ settled_then s total transitive r (t₀ (t + c)) (t₀ (t + d)) stop₀ (bounded.falls c d p h)))
-                ∙ sym (shifted_at s by x f t n t₀ k d q h))
+            e k ∙ shifted_over s by x f t c t₀ k (omega arith)
+            ∙ sym (settled_kept s total transitive by x r (t₀ (f + d)) (t₀ k) (bounded.offers d h) (ap (λ i. settled s r (t₀ i)) q ∙ settled_then s total transitive r (t₀ (t + c)) (t₀ (t + d)) stop₀ (bounded.falls c d p h)))
+            ∙ sym (shifted_at s by x f t n t₀ k d q h))
             (cases_lt d c)
 
     module _ (j : ℕ) (x : PlainLoad) (from to k l : ℕ) (runs : Runs) (t : ℕ → Cell R) (falls : Fall s k l j from to t) where

@@ -25,7 +25,7 @@ pub struct Answer {
     pub stages: [StageRecord; 16],
 }
 
-// Of no stage.
+// What stands at the place of no stage.
 const BLANK: StageRecord = StageRecord { mask: 0, kind: 0 };
 
 // The stages of a split, from the first place on.
@@ -70,7 +70,7 @@ impl Answer {
         }
     }
 
-    // Of either.
+    // Of a search, whether it was refused or not.
     pub(crate) fn of(searched: Result<Found<u32>, Refusal>) -> Answer
         ensures { Tells searched result }
     {

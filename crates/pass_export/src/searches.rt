@@ -29,7 +29,7 @@ fn search(
     best_split::find(&problem, &Peak, ideals, ratings, choices)
 }
 
-// The same, exported.
+// `search` by a name and types that a program in C can call.
 #[unsafe(no_mangle)]
 pub extern "C" fn planner_find_split(
     file: &[u8],

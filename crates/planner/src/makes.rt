@@ -8,7 +8,7 @@ use refusals::Refusal;
 use scale::Scale;
 use sheet::Operator;
 
-// The figures of an operator once more. An operator is not copied but here, where a call is lent and its operator is to be kept.
+// The figures of an operator once more: a call is lent, and its operator is kept.
 fn again(operator: &Operator) -> Operator
     ensures { result ≡ operator.now }
 {

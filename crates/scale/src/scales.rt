@@ -24,6 +24,7 @@ pub trait Scale {
     fn join(&self, rating: Self::Rating, load: &Load) -> Self::Rating
         ensures { result ≡ (rules self.now).joined rating (load_of load.now) };
 
+    // any two ratings compare, each way only where they are the same, and through a third
     ghost total: { (scale : Self) (x y : Self.Rating) → (rules scale).at_most x y ≡ false → (rules scale).at_most y x ≡ true };
 
     ghost antisymmetric: { (scale : Self) (x y : Self.Rating) → (rules scale).at_most x y ≡ true → (rules scale).at_most y x ≡ true → x ≡ y };

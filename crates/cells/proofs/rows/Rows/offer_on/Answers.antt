@@ -20,7 +20,7 @@ returns-in_default-candidate-clause-offers g c falls =
     let is = ap answered c.in-Some.is in
     let none : candidate s c.of-choice.result x (t (last_of c.args.from l c.runs-runs.result)) ≡ None = rw (c.line-line.ensures) at (sym c.candidate.ensures ∙ c.in_default-candidate.is) in
     rw is (onto_same s (on s w c.args.ideal (Some x) (row l c.args.from t)) (k + 1) l c.args.to t
-        (λ a b h h'. vain s (law.total p.scale.now) (law.transitive p.scale.now) c.args.ideal x c.args.from c.args.to k l c.runs-runs.result t falls w c.runs-runs.ensures (rw c.of-choice.ensures at none) a b (omega arith) h h'))
+    (λ a b h h'. vain s (law.total p.scale.now) (law.transitive p.scale.now) c.args.ideal x c.args.from c.args.to k l c.runs-runs.result t falls w c.runs-runs.ensures (rw c.of-choice.ensures at none) a b (omega arith) h h'))
 
 pub is_settled-requires : goal.is_settled-requires
 is_settled-requires g c =
@@ -49,8 +49,8 @@ returns-then-is_settled-clause-offers g c falls =
     let stop = rw c.line-line.ensures at (sym c.is_settled.ensures ∙ c.if-is_settled.true) in
     let same : u (c.args.to + r * (l + 1) + runs.step) ≡ t (c.args.to + r * (l + 1) + runs.step) = done.above _ (first_past w k l r c.args.to runs c.runs-runs.ensures) in
     onto_rest s (on s w c.args.ideal (answered c.args.load.now) (row l c.args.from t)) (lines_led w r) (k + 1) l c.args.to t u (led_le w k l r runs c.runs-runs.ensures c.loop-r-test.true)
-        (rw is (stays s (law.total p.scale.now) (law.transitive p.scale.now) c.args.ideal x c.args.from c.args.to k l runs t falls (λ y z. law.monotone p.scale.now y z x c.in-Some.load.fair) c.in-Some-candidate.bound w c.runs-runs.ensures found r c.loop-r-test.true some (sym (ap (settled s c.in-Some-candidate.bound) same) ∙ stop)))
-        done
+    (rw is (stays s (law.total p.scale.now) (law.transitive p.scale.now) c.args.ideal x c.args.from c.args.to k l runs t falls (λ y z. law.monotone p.scale.now y z x c.in-Some.load.fair) c.in-Some-candidate.bound w c.runs-runs.ensures found r c.loop-r-test.true some (sym (ap (settled s c.in-Some-candidate.bound) same) ∙ stop)))
+    done
 
 pub loop-r-preserved : goal.loop-r-preserved
 loop-r-preserved g c =

@@ -49,8 +49,8 @@ offer_ideal-requires-clause-falls g c =
     let v = c.loop-j.invariant in
     let law = g.met.S.Scale in
     rw v.0.rows (falls_like s (law.total p.rows.scale.now) (law.transitive p.rows.scale.now) (stands (by_first j)) l (k + 1) (row l (j * w) (cells_in p c.args.tables.now)) (row l (j * w) (cells_in p c.loop-j.tables))
-        (λ a b h h'. v.2.below _ (before_row c.args.i j k l a b c.in-Some.ensures.1 h h'))
-        (c.requires.fall j c.in-Some.ensures.1))
+    (λ a b h h'. v.2.below _ (before_row c.args.i j k l a b c.in-Some.ensures.1 h h'))
+    (c.requires.fall j c.in-Some.ensures.1))
 
 pub offer_ideal-requires-clause-holds : goal.offer_ideal-requires-clause-holds
 offer_ideal-requires-clause-holds g c = rw c.loop-j.invariant.0.rows c.loop-j.invariant.4
@@ -93,5 +93,5 @@ returns-clause-falls g c =
     let at = c.args.i * width_of k l in
     let v = c.loop-j.invariant in
     row_falls s (at_most_self s (law.total p.rows.scale.now) (law.transitive p.rows.scale.now)) c.args.i (k + 1) l (row l at (cells_in p c.loop-j.tables))
-        (λ none a b h h'. let none' : c.loop-j.from ≡ 0 = omega (arith, none, v.3) in v.2.here a b h h' ∙ ap (λ n. reached (setting_of p) c.args.i n a b (cells_in p c.args.tables.now (at + place l a b))) none')
-        v.4
+    (λ none a b h h'. let none' : c.loop-j.from ≡ 0 = omega (arith, none, v.3) in v.2.here a b h h' ∙ ap (λ n. reached (setting_of p) c.args.i n a b (cells_in p c.args.tables.now (at + place l a b))) none')
+    v.4

@@ -65,5 +65,5 @@ returns-clause-holds g c =
     let law = g.met.S.Scale in
     let done = IfOk-at_ok (λ _. _) c.unwrap.ensures c.offer.ensures.offers (rw (c.row_at-from.ensures, c.row_at-to.ensures) (c.requires.falls, c.requires.holds)) in
     rw c.row_at-to.ensures at (falls_both s (law.total scale) (law.transitive scale) c.args.j (answered c.load-x.result) (answered c.load-y.result)
-        (λ x is y z. law.monotone scale y z x (fair_answered c.load-x.result x is)) (λ x is y z. law.monotone scale y z x (fair_answered c.load-y.result x is))
-        c.row_at-from.result c.row_at-to.result p.rows.counts.k p.rows.counts.l (table s c.args.tables.now) (table s c.offer.new.tables) (rw (c.row_at-from.ensures, c.row_at-to.ensures) (c.requires.falls, c.requires.holds)) done)
+    (λ x is y z. law.monotone scale y z x (fair_answered c.load-x.result x is)) (λ x is y z. law.monotone scale y z x (fair_answered c.load-y.result x is))
+    c.row_at-from.result c.row_at-to.result p.rows.counts.k p.rows.counts.l (table s c.args.tables.now) (table s c.offer.new.tables) (rw (c.row_at-from.ensures, c.row_at-to.ensures) (c.requires.falls, c.requires.holds)) done)
