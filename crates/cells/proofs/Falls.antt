@@ -39,9 +39,6 @@ module _ {R : Type 0} (s : Rules R) (total : (x y : R) → s.at_most x y ≡ fal
   pub at_most_self : (r : R) → s.at_most r r ≡ true
   at_most_self r = ⊎_elim (λ e. e) (λ e. total r r e) (cases_Bool (s.at_most r r))
 
-  pub no_worse_self : (p : Cell R → Bool) (c : Cell R) → NoWorse s p c c
-  no_worse_self p c h = (h, at_most_self c.rating)
-
   pub no_worse_then : (p : Cell R → Bool) (c d e : Cell R) → NoWorse s p c d → NoWorse s p d e → NoWorse s p c e
   no_worse_then p c d e f g h =
       let there = f h in

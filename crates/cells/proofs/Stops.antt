@@ -1,5 +1,5 @@
 -- Where offers may stop: the rest of a line, or of a row, stays as it is.
-use Rattle.std.proofs.Common.{◌≡◌, ℕ, zero, suc, ◌+◌, ◌-◌, ◌*◌, ◌<◌, ◌≤◌, Bool, true, false, not, ◌&&◌, Some, None, Option, ◌⊎◌, sym, refl, ap, ◌∙◌, subst, ⊎_elim, suc-mul, add-mul, arith}
+use Rattle.std.proofs.Common.{◌≡◌, ℕ, zero, suc, ◌+◌, ◌-◌, ◌*◌, ◌<◌, ◌≤◌, Bool, true, false, not, ◌&&◌, Some, None, Option, ◌⊎◌, sym, refl, ap, ◌∙◌, subst, inl, inr, ⊎_elim, suc-mul, add-mul, mul-le-mul_right, arith}
 use Rattle.std.specs.Prelude.{◌==◌}
 use Rattle.std.proofs.lemmas.Bool.{cases_lt, ne_eqb, or_parts}
 use Rattle.device.specs.Loads.{PlainLoad, Fair}
@@ -12,7 +12,7 @@ use Rattle.cells.specs.declared.choices.Choice.{Choice}
 use Rattle.cells.specs.declared.rows.Runs.{Runs}
 use Rattle.cells.specs.Cells.{Cell, choice_of, stands, offered, shifted}
 use Rattle.cells.specs.Rows.{place, width_of, row, by_first, runs_of, first, second, on, both, Onto}
-use Rattle.cells.specs.Falls.{holds, leads_on, candidate, settled, Falls, Fall, Bounded}
+use Rattle.cells.specs.Falls.{holds, leads_on, candidate, settled, Falls, BothFall, Within, PerhapsOn, Bounded}
 use Rattle.cells.proofs.Falls.{AtLeast, settled_then, settled_kept, candidate_bounds, nothing_kept, no_worse_then, no_worse_offered, no_worse_both}
 use Rattle.cells.proofs.RowSteps.{line_le, lines_led, shifted_at, shifted_under, shifted_over}
 
@@ -33,23 +33,31 @@ first_past First k l r to runs led = omega (arith, ap (λ v. v.step) led, add-mu
 first_past Second k l r to runs led = omega (arith, ap (λ v. v.step) led)
 
 module _ {R : Type 0} (s : Rules R) where
+  -- the first c of n offers make of each cell what all make of it, or leave it
+  pub shifted_part : (by : Choice) (x : PlainLoad) (f t n c : ℕ) (t₀ t₁ : ℕ → Cell R) → c ≤ n → ((k : ℕ) → t₁ k ≡ shifted s by x f t c t₀ k) → (k : ℕ) → (t₁ k ≡ t₀ k) ⊎ (t₁ k ≡ shifted s by x f t n t₀ k)
+  shifted_part by x f t n c t₀ t₁ within e k = ⊎_elim
+      (λ q. inl (e k ∙ shifted_under s by x f t c t₀ k q))
+      (λ q. ⊎_elim
+      (λ p. inr (e k ∙ shifted_at s by x f t c t₀ k (k - t) (omega arith) (omega arith) ∙ sym (shifted_at s by x f t n t₀ k (k - t) (omega arith) (omega arith))))
+      (λ p. inl (e k ∙ shifted_over s by x f t c t₀ k p))
+      (cases_lt k (t + c)))
+      (cases_lt k t)
+
   -- a row that no offer changes
   pub onto_same : (g : ℕ → ℕ → Cell R → Cell R) (n l to : ℕ) (t : ℕ → Cell R) → ((a b : ℕ) → a < n → b ≤ l → g a b (t (to + place l a b)) ≡ t (to + place l a b)) → Onto l n to g t t
   onto_same g n l to t same = record { here = λ a b h h'. sym (same a b h h'); below = λ c h. refl; above = λ c h. refl }
 
-  -- before the first run of a kind
-  pub none_yet : (w : WhichKind) (j : ℕ) (o : Option PlainLoad) (l to : ℕ) (from : ℕ → ℕ → Cell R) (t : ℕ → Cell R) → Onto l (lines_led w 0) to (on s w j o from) t t
-  none_yet First j o l to from t = onto_same (first s j o from) (0 + 1) l to t (λ a b h h'. let none : a ≡ 0 = omega arith in rw none refl)
-  none_yet Second j o l to from t = onto_same (second s j o from) 0 l to t (λ a b h h'. absurd (omega arith))
+  -- before any run of a kind
+  pub within_none : (w : WhichKind) (j : ℕ) (o : Option PlainLoad) (l to : ℕ) (from : ℕ → ℕ → Cell R) (t : ℕ → Cell R) → Within l (lines_led w 0) to (PerhapsOn s w j o from) t t
+  within_none w j o l to from t = record { here = λ a b h h'. inl refl; below = λ c h. refl; above = λ c h. refl }
 
-  -- a kind of which there is no device, or none that leads on, changes nothing
-  pub no_runs : (w : WhichKind) (j : ℕ) (x : PlainLoad) (k l : ℕ) (runs : Runs) (from : ℕ → ℕ → Cell R) → runs ≡ runs_of k l w → (runs.count ≡ 0) ⊎ (runs.cells ≡ 0) → (a b : ℕ) (c : Cell R) → a < k + 1 → b ≤ l → on s w j (Some x) from a b c ≡ c
-  no_runs First j x k l runs from led none zero b c h h' = refl
-  no_runs First j x k l runs from led none (suc a) b c h h' =
-      absurd (⊎_elim (λ q. omega (arith, ap (λ v. v.count) led)) (λ q. omega (arith, ap (λ v. v.cells) led)) none)
-  no_runs Second j x k l runs from led none a zero c h h' = refl
-  no_runs Second j x k l runs from led none a (suc b) c h h' =
-      absurd (⊎_elim (λ q. omega (arith, ap (λ v. v.count) led)) (λ q. omega (arith, ap (λ v. v.cells) led)) none)
+  -- the lines from n on may be as they were
+  pub within_rest : (w : WhichKind) (j : ℕ) (o : Option PlainLoad) (n m l to : ℕ) (from : ℕ → ℕ → Cell R) (t₀ t₁ : ℕ → Cell R) → n ≤ m → Within l n to (PerhapsOn s w j o from) t₀ t₁ → Within l m to (PerhapsOn s w j o from) t₀ t₁
+  within_rest w j o n m l to from t₀ t₁ up p = record {
+    here = λ a b h h'. ⊎_elim (λ q. p.here a b q h') (λ q. inl (p.above _ (omega (arith, mul-le-mul_right (l + 1) q)))) (cases_lt a n);
+    below = p.below;
+    above = λ c h. p.above c (omega (arith, mul-le-mul_right (l + 1) up));
+  }
 
   -- each offer of the kind leaves its cell
   abbrev Leaves : WhichKind → ℕ → PlainLoad → ℕ → ℕ → ℕ → ℕ → ℕ → (ℕ → Cell R) → Type 0
@@ -75,7 +83,7 @@ module _ {R : Type 0} (s : Rules R) where
             ∙ sym (shifted_at s by x f t n t₀ k d q h))
             (cases_lt d c)
 
-    module _ (j : ℕ) (x : PlainLoad) (from to k l : ℕ) (runs : Runs) (t : ℕ → Cell R) (falls : Fall s k l j from to t) where
+    module _ (j : ℕ) (x : PlainLoad) (from to k l : ℕ) (runs : Runs) (t : ℕ → Cell R) (falls : BothFall s k l j from to t) where
       -- where the last cell that leads on holds nothing, none does
       pub vain : (w : WhichKind) → runs ≡ runs_of k l w → candidate s (choice_of j w) x (t (last_of from l runs)) ≡ None → Leaves w j x from to k l 0 t
       vain First led none zero b n h h' = refl
@@ -177,7 +185,7 @@ module _ {R : Type 0} (s : Rules R) where
     same_none Second j from a (suc b) c = refl
 
     -- where neither kind leads on from a row, no offer of it changes a cell
-    module _ (j from to k l : ℕ) (t : ℕ → Cell R) (falls : Fall s k l j from to t) (none : leads_on k l j (row l from t) ≡ false) where
+    module _ (j from to k l : ℕ) (t : ℕ → Cell R) (falls : BothFall s k l j from to t) (none : leads_on k l j (row l from t) ≡ false) where
       neither : ((not (k == 0) && stands (by_first j) (row l from t (k - 1) l)) ≡ false) × ((not (l == 0) && stands (by_first j) (row l from t k (l - 1))) ≡ false)
       neither = or_parts (not (k == 0) && stands (by_first j) (row l from t (k - 1) l)) (not (l == 0) && stands (by_first j) (row l from t k (l - 1))) none
 
@@ -208,13 +216,13 @@ module _ {R : Type 0} (s : Rules R) where
     falls_like p l n cells like same falling a b a' b' h k h' k' = rw (same a b (omega arith) (omega arith), same a' b' k k') (falling a b a' b' h k h' k')
 
     -- after the offers with one kind, and after those with both
-    pub fall_then : (w : WhichKind) (j : ℕ) (o : Option PlainLoad) → Steady o → (from to k l : ℕ) (t u : ℕ → Cell R) → from + width_of k l ≤ to → Fall s k l j from to t → Onto l (k + 1) to (on s w j o (row l from t)) t u → Fall s k l j from to u
+    pub fall_then : (w : WhichKind) (j : ℕ) (o : Option PlainLoad) → Steady o → (from to k l : ℕ) (t u : ℕ → Cell R) → from + width_of k l ≤ to → BothFall s k l j from to t → Onto l (k + 1) to (on s w j o (row l from t)) t u → BothFall s k l j from to u
     fall_then w j o steady from to k l t u apart falls done = (
       falls_like (stands (by_first j)) l (k + 1) (row l from t) (row l from u) (λ a b h h'. done.below _ (omega (arith, line_le a (k + 1) (l + 1) h))) falls.0,
       falls_like holds l (k + 1) (λ a b. on s w j o (row l from t) a b (row l to t a b)) (row l to u) done.here (falls_asked w j o steady l (k + 1) (row l from t) (row l to t) falls.0 falls.1),
     )
 
-    pub falls_both : (j : ℕ) (x y : Option PlainLoad) → Steady x → Steady y → (from to k l : ℕ) (t u : ℕ → Cell R) → Fall s k l j from to t → Onto l (k + 1) to (both s j x y (row l from t)) t u → Falls s holds l (k + 1) (row l to u)
+    pub falls_both : (j : ℕ) (x y : Option PlainLoad) → Steady x → Steady y → (from to k l : ℕ) (t u : ℕ → Cell R) → BothFall s k l j from to t → Onto l (k + 1) to (both s j x y (row l from t)) t u → Falls s holds l (k + 1) (row l to u)
     falls_both j x y steady steady' from to k l t u falls done =
         falls_like holds l (k + 1) (λ a b. both s j x y (row l from t) a b (row l to t a b)) (row l to u) done.here
         (falls_asked Second j y steady' l (k + 1) (row l from t) (λ a b. first s j x (row l from t) a b (row l to t a b)) falls.0

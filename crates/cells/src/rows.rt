@@ -2,7 +2,7 @@
 ghost use Rattle.std.specs.Prelude.{◌≡◌, ◌+◌, ◌≤◌, nat_le, is_ok, OnOk, OnErr};
 ghost use Rattle.std.specs.Result.{result_err};
 ghost use Rattle.device.specs.Views.{answered};
-ghost use Rattle.cells.specs.Falls.{Around, Fall};
+ghost use Rattle.cells.specs.Falls.{Within, PerhapsOn, PerhapsBoth, BothFall};
 ghost use Rattle.cells.specs.Rows.{width_of, runs_of, on, both, clear, row, Onto};
 ghost use Rattle.cells.specs.Tables.{table, HasCells, SameTables, holds_row, holds_rows, row_error, rows_error};
 
@@ -87,8 +87,8 @@ impl<'a, S: Scale> Rows<'a, S> {
         }
     }
 
-    // Offers the row at `from`, of an ideal, to the row at `to`, with a stage of this load on this kind, where both rows fall.
-    // Then no candidate is below that of the last cell that leads on, and where that is no lower than the first cell of a line, it is no lower than any cell from there on.
+    // Offers the row at `from`, of an ideal, to the row at `to`, with a stage of this load on this kind: each cell, where both rows fall.
+    // Then no candidate is below that of the last cell that leads on. Where this is no lower than the first cell that a run leads to, it is no lower than any cell that this run or a later one leads to.
     // In line at both of its calls: out of line the addresses of the two tables are read anew after each write.
     #[inline(always)]
     fn offer_on(
@@ -103,8 +103,8 @@ impl<'a, S: Scale> Rows<'a, S> {
         requires apart { from + width_of self.now.counts.k self.now.counts.l ≤ to }
         requires room { HasCells tables.old (to + width_of self.now.counts.k self.now.counts.l) }
         ensures same { SameTables tables.old tables.new }
-        ensures around { let s = S.Scale.rules self.now.scale.now in Around (width_of self.now.counts.k self.now.counts.l) to (table s tables.old) (table s tables.new) }
-        ensures offers { let s = S.Scale.rules self.now.scale.now in let k = self.now.counts.k in let l = self.now.counts.l in let before = table s tables.old in Fall s k l ideal from to before → Onto l (k + 1) to (on s kind ideal (answered load.now) (row l from before)) before (table s tables.new) }
+        ensures perhaps { let s = S.Scale.rules self.now.scale.now in let l = self.now.counts.l in let before = table s tables.old in Within l (self.now.counts.k + 1) to (PerhapsOn s kind ideal (answered load.now) (row l from before)) before (table s tables.new) }
+        ensures offers { let s = S.Scale.rules self.now.scale.now in let k = self.now.counts.k in let l = self.now.counts.l in let before = table s tables.old in BothFall s k l ideal from to before → Onto l (k + 1) to (on s kind ideal (answered load.now) (row l from before)) before (table s tables.new) }
     {
         let Some(load) = load else {
             return;
@@ -152,7 +152,8 @@ impl<'a, S: Scale> Rows<'a, S> {
     }
 
     // Offers the row at `from`, of an ideal, to the row at `to`: with a stage of the load `x` on kind 1, then with one of the load `y` on kind 2.
-    // Where both rows fall, as those of a table that is filled row by row do, each cell of the second becomes what both offers make of it. Cells outside it never change.
+    // Where both rows fall, as those of a table that is filled row by row do, each cell of the second becomes what both offers make of it. Of other rows some cells may be left out.
+    // Out of line: in line the loops over cells run out of registers.
     #[inline(never)]
     pub fn offer(
         &self,
@@ -166,14 +167,15 @@ impl<'a, S: Scale> Rows<'a, S> {
         ensures fits { is_ok result ≡ holds_rows tables.old from to (width_of self.now.counts.k self.now.counts.l) }
         ensures refuses { result_err result ≡ rows_error tables.old from to (width_of self.now.counts.k self.now.counts.l) }
         ensures same { SameTables tables.old tables.new }
-        ensures around { let s = S.Scale.rules self.now.scale.now in Around (width_of self.now.counts.k self.now.counts.l) to (table s tables.old) (table s tables.new) }
-        ensures offers { let s = S.Scale.rules self.now.scale.now in let k = self.now.counts.k in let l = self.now.counts.l in let before = table s tables.old in OnOk result (Fall s k l ideal from to before → Onto l (k + 1) to (both s ideal (answered x.now) (answered y.now) (row l from before)) before (table s tables.new)) }
+        ensures perhaps { let s = S.Scale.rules self.now.scale.now in let l = self.now.counts.l in let before = table s tables.old in OnOk result (Within l (self.now.counts.k + 1) to (PerhapsBoth s ideal (answered x.now) (answered y.now) (row l from before)) before (table s tables.new)) }
+        ensures offers { let s = S.Scale.rules self.now.scale.now in let k = self.now.counts.k in let l = self.now.counts.l in let before = table s tables.old in OnOk result (BothFall s k l ideal from to before → Onto l (k + 1) to (both s ideal (answered x.now) (answered y.now) (row l from before)) before (table s tables.new)) }
         ensures keeps { OnErr result (tables.new ≡ tables.old) }
     {
         if !ends_within(from, self.width(), to) {
             return Err(RowError::Overlaps);
         }
         self.check_room(tables, to)?;
+        // lent once more: the addresses of the caller's `Tables` would be read anew after each write
         let mut lent = Tables {
             ratings: &mut *tables.ratings,
             choices: &mut *tables.choices,

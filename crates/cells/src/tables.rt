@@ -1,8 +1,8 @@
 // One cell offered to another, and many to as many.
-ghost use Rattle.std.specs.Prelude.{◌≡◌, ◌+◌, ◌<◌, ◌≤◌, not, ◌||◌, ◌==◌};
+ghost use Rattle.std.specs.Prelude.{◌≡◌, ◌⊎◌, ℕ, ◌+◌, ◌<◌, ◌≤◌, not, ◌||◌, ◌==◌};
 ghost use Rattle.device.specs.Views.{load_of};
 ghost use Rattle.cells.specs.Cells.{lowered, offered, poked, shifted, cleared};
-ghost use Rattle.cells.specs.Falls.{candidate, settled, Bounded, Around};
+ghost use Rattle.cells.specs.Falls.{candidate, settled, Bounded};
 ghost use Rattle.cells.specs.Tables.{table, HasCells, SameTables, TablesTurn};
 
 use super::Choice;
@@ -65,7 +65,7 @@ impl<'a, R: Copy> Tables<'a, R> {
         }
     }
 
-    // What the cell `from` gives with one stage of this load more, where a rating stands there.
+    // What the cell `from` gives with one stage of this load more, where a rating stands there of the ideal that `choice` names.
     pub(crate) fn candidate<S: Scale<Rating = R>>(
         &self,
         scale: &S,
@@ -79,7 +79,7 @@ impl<'a, R: Copy> Tables<'a, R> {
         is_standing(choice, self.choices[from]).then(|| scale.join(self.ratings[from], load))
     }
 
-    // Whether a rating that is at most `bound` stands in the cell `at`.
+    // Whether the cell `at` holds a candidate that is at most `bound`.
     pub(crate) fn is_settled<S: Scale<Rating = R>>(&self, scale: &S, at: usize, bound: R) -> bool
         requires { HasCells self.now (at + 1) }
         ensures { let s = S.Scale.rules scale.now in result ≡ settled s bound (table s self.now at) }
@@ -87,8 +87,8 @@ impl<'a, R: Copy> Tables<'a, R> {
         !self.choices[at].is_none() && scale.is_at_most(self.ratings[at], bound)
     }
 
-    // Offers the `count` cells from `from` on to those from `to` on, where no candidate is below `bound`:
-    // up to the first that is settled, since those after it are no worse.
+    // Offers the `count` cells from `from` on to those from `to` on, up to the first that is settled:
+    // where no candidate is below `bound`, and no cell is worse than one before it, those after it are settled too.
     pub(crate) fn shift<S: Scale<Rating = R>>(
         &mut self,
         scale: &S,
@@ -102,7 +102,7 @@ impl<'a, R: Copy> Tables<'a, R> {
         requires apart { from + count ≤ to }
         requires room { HasCells self.old (to + count) }
         ensures same { SameTables self.old self.new }
-        ensures around { let s = S.Scale.rules scale.now in Around count to (table s self.old) (table s self.new) }
+        ensures each { let s = S.Scale.rules scale.now in let x = load_of load.now in let before = table s self.old in (c : ℕ) → (table s self.new c ≡ before c) ⊎ (table s self.new c ≡ shifted s choice x from to count before c) }
         ensures turns { let s = S.Scale.rules scale.now in Bounded s choice (load_of load.now) bound from to count (table s self.old) → TablesTurn s self.old self.new (shifted s choice (load_of load.now) from to count) }
     {
         // By number: a cell is one place in two tables. Of two slices that are written through a `zip` a proof does not know what they hold afterwards, and a walk over one of them would leave the number for the other and for the cell that is offered.

@@ -18,7 +18,8 @@ use sheet::{Sheet, StageFigures};
 use std::array;
 
 // A sheet and, in fixed memory, a vertex for each number, and what is known of some sets: at each number of one whose lowest operator it is, and until then of the set without operators.
-// The vertices are of the sheet, once more: of these a number below 64 is one without a test of how many operators there are.
+// The vertices repeat what the sheet says: in an array of 64 a number below 64 needs no test of how many operators there are.
+// The sheet is read when the memo is made; after that it says in contracts whose vertices these are.
 #[derive(Drop)]
 pub struct StageMemo<'a> {
     sheet: &'a Sheet,
@@ -67,6 +68,7 @@ impl<'a> StageMemo<'a> {
     {
         let old = above.figures;
         let vertex = self.vertices[v];
+        // read before the two tests, so that the compiler chooses by their answers without a jump
         let link = vertex.link;
         let mask = sets::include(old.mask, v);
         let fresh = self.links(sets::difference(vertex.predecessors, above.feeding));
@@ -93,7 +95,7 @@ impl<'a> StageMemo<'a> {
         }
     }
 
-    // What is known of the largest part of a set that lacks only lowest operators of it: the part without operators, if no other.
+    // What is known of a part of a set that lacks only lowest operators of it: the part without operators, if no other.
     fn part(&self, mask: u64) -> Known
         ensures tail { Tail mask result.figures.mask }
         ensures right { Right (memo_net self.now) result }

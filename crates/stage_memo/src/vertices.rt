@@ -5,7 +5,7 @@ ghost use Rattle.stage_memo.specs.Vertices.{vertex_of};
 use sheet::{Operator, Sheet};
 
 // An operator of a network as a vertex: its figures, and the sets of the operators from which and to which it has an edge.
-// The figures are not an `Operator`, which is not copied: out of a memo, which holds a sheet by reference, no vertex can be lent.
+// It is copied out of a memo, since the memo holds a reference, and of such a struct an array's element is not lent yet; so its figures are no `Operator`, which is not copied.
 #[derive(Clone, Copy)]
 pub(crate) struct Vertex {
     pub(crate) acc: u32,

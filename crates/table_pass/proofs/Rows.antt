@@ -51,11 +51,8 @@ module _ {R : Type 0} (e : Setting R) (bottom : (a b : ℕ) → e.bottom a b ≡
     above = λ c h. q.above c h ∙ p.above c h;
   }
     where
-      under : (a b : ℕ) → a < k + 1 → b ≤ l → j * width_of k l + place l a b < i * width_of k l
-      under a b h h' = omega (arith, line_le j i (width_of k l) lt, place_lt k l a b h h')
-
       right : (a b : ℕ) → a < k + 1 → b ≤ l → t₁ (j * width_of k l + place l a b) ≡ shown e.rules (pick e a b j)
-      right a b h h' = p.below _ (under a b h h') ∙ filled j a b lt h h'
+      right a b h h' = p.below _ (before_row i j k l a b lt h h') ∙ filled j a b lt h h'
 
   -- ideals that do not lie inside offer nothing
   cut_none : (k : KindNumber) (a b i j : ℕ) → inside (ideal e j) (ideal e i) ≡ false → cut e k a b i j ≡ None
@@ -88,7 +85,7 @@ module _ {R : Type 0} (e : Setting R) (bottom : (a b : ℕ) → e.bottom a b ≡
   pub filled_more : (i : ℕ) (t₁ t₂ : ℕ → Cell R) → Filled e k l i t₁ → Row i (reached e i i) t₁ t₂ → Filled e k l (i + 1) t₂
   filled_more i t₁ t₂ f o i' a b h m m' = ⊎_elim
       (λ q. rw q (o.here a b m m'))
-      (λ ne. let lt : i' < i = omega arith in o.below _ (omega (arith, line_le i' i (width_of k l) lt, place_lt k l a b m m')) ∙ f i' a b lt m m')
+      (λ ne. let lt : i' < i = omega arith in o.below _ (before_row i i' k l a b lt m m') ∙ f i' a b lt m m')
       (cases_eq i' i)
 
   pub beyond_more : (i : ℕ) (t₀ t₁ t₂ : ℕ → Cell R) → ((c : ℕ) → i * width_of k l ≤ c → t₁ c ≡ t₀ c) → Row i (reached e i i) t₁ t₂ → (c : ℕ) → (i + 1) * width_of k l ≤ c → t₂ c ≡ t₀ c

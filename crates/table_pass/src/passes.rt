@@ -1,9 +1,8 @@
-ghost use Rattle.std.specs.Prelude.{◌≡◌, ◌*◌, ◌<◌, ◌≤◌, true, length, slice_index};
+ghost use Rattle.std.specs.Prelude.{◌≡◌, ◌*◌, ◌<◌, ◌≤◌, true, false, length, slice_index};
 ghost use Rattle.sets.specs.Sets.{inside};
 ghost use Rattle.split.specs.Problems.{net_of};
 ghost use Rattle.stage_memo.specs.Views.{memo_net};
-ghost use Rattle.cells.specs.Rows.{width_of, row};
-ghost use Rattle.cells.specs.Falls.{leads_on};
+ghost use Rattle.cells.specs.Rows.{width_of};
 ghost use Rattle.cells.specs.Tables.{SameTables};
 
 use cells::{Rows, Tables};
@@ -26,7 +25,7 @@ pub(crate) struct Pass<'a, K: Kind, L: Kind, S: Scale> {
 
 impl<K: Kind, L: Kind, S: Scale> Pass<'_, K, L, S> {
     ghost use Rattle.table_pass.specs.Filled.{reached, Filled, Passed};
-    ghost use Rattle.table_pass.specs.Passes.{setting_of, cells_in, offered_row, HasRoom, RowTurns, RowFalls, FallBefore, RowHolds, SamePass, NextInside};
+    ghost use Rattle.table_pass.specs.Passes.{setting_of, cells_in, leading, offered_row, HasRoom, RowTurns, RowFalls, FallBefore, HeldFalls, SamePass, NextInside};
 
     // Where the row of ideal `i` begins.
     fn row_at(&self, i: usize) -> usize
@@ -48,12 +47,12 @@ impl<K: Kind, L: Kind, S: Scale> Pass<'_, K, L, S> {
         Some(from + steps)
     }
 
-    // Whether a stage leads on from the row of ideal `j`, at `from`, to a later row: from the cells of the most devices, if from any.
+    // Whether a rating stands in one of the two cells of the most devices of the row of ideal `j`, at `from`, from which a stage could lead on. In a row that falls no other cell leads on where neither does.
     fn leads_on(&self, tables: &Tables<'_, S::Rating>, j: usize, from: usize) -> bool
         requires listed { j < length self.now.ideals.now }
         requires place { from ≡ j * width_of self.now.rows.counts.k self.now.rows.counts.l }
         requires room { HasRoom self.now tables.now }
-        ensures { result ≡ leads_on self.now.rows.counts.k self.now.rows.counts.l j (row self.now.rows.counts.l (j * width_of self.now.rows.counts.k self.now.rows.counts.l) (cells_in self.now tables.now)) }
+        ensures { result ≡ leading self.now tables.now j }
     {
         let counts = self.rows.counts();
         let last = from + self.rows.width() - 1;
@@ -71,11 +70,12 @@ impl<K: Kind, L: Kind, S: Scale> Pass<'_, K, L, S> {
         requires inside { inside (slice_index self.old.ideals.now j) (slice_index self.old.ideals.now i) ≡ true }
         requires room { HasRoom self.old tables.old }
         requires falls { RowFalls self.old tables.old j }
-        requires holds { RowHolds self.old tables.old i }
+        requires holds { HeldFalls self.old tables.old i }
         ensures same { SamePass self.old self.new }
         ensures lent { SameTables tables.old tables.new }
         ensures rows { RowTurns self.old tables.old tables.new i (offered_row self.old tables.old i j) }
-        ensures holds { RowHolds self.old tables.new i }
+        ensures holds { HeldFalls self.old tables.new i }
+        ensures idle { leading self.old tables.old j ≡ false → self.new ≡ self.old }
     {
         let from = self.row_at(j);
         if !self.leads_on(tables, j, from) {
@@ -104,7 +104,7 @@ impl<K: Kind, L: Kind, S: Scale> Pass<'_, K, L, S> {
         let at = self.row_at(i);
         self.rows.clear(tables, at).unwrap();
         let outer = self.ideals[i];
-        // by index: the rows stand by it, and the choices name it; from one ideal inside to the next, so that a loop of its own passes over the others
+        // by index: the rows stand by it, and the choices name it
         let mut from = 0;
         while let Some(j) = self.next_inside(outer, from, i) {
             self.offer_ideal(tables, i, j);

@@ -3,8 +3,8 @@ use Rattle.device.specs.Views.{load_of, answered}
 use Rattle.cells.specs.Rows.{row, on}
 use Rattle.cells.specs.Tables.{table}
 use Rattle.cells.specs.Falls.{candidate, settled}
-use Rattle.cells.proofs.RowSteps.{lines_led, led_le, run_le, lines_all, onto_more, onto_rest}
-use Rattle.cells.proofs.Stops.{last_of, onto_same, vain, bounded_run, stays, first_past}
+use Rattle.cells.proofs.RowSteps.{lines_led, led_le, run_le, lines_all, onto_more, onto_rest, within_more}
+use Rattle.cells.proofs.Stops.{within_rest, last_of, onto_same, vain, bounded_run, stays, first_past}
 use Rattle.cells.proofs.rows.Rows.offer_on.Goals as goal
 
 pub returns-in_default-candidate-clause-offers : goal.returns-in_default-candidate-clause-offers
@@ -28,6 +28,13 @@ is_settled-requires g c =
     let some : 0 < c.runs-runs.result.cells = omega (arith, c.if-runs-eq0-2.false) in
     let same = c.loop-r.invariant.same in
     rw (c.line-line.ensures, same.ratings_length, same.choices_length) (omega arith, omega arith)
+
+pub returns-then-is_settled-clause-perhaps : goal.returns-then-is_settled-clause-perhaps
+returns-then-is_settled-clause-perhaps g c =
+    let p = c.args.self.now in
+    let s = g.S.Scale.rules p.scale.now in
+    let t = table s c.args.tables.now in
+    within_rest s c.args.kind c.args.ideal (answered c.args.load.now) (lines_led c.args.kind c.loop-r.r) (p.counts.k + 1) p.counts.l c.args.to (row p.counts.l c.args.from t) t (table s c.loop-r.tables) (led_le c.args.kind p.counts.k p.counts.l c.loop-r.r c.runs-runs.result c.runs-runs.ensures c.loop-r-test.true) c.loop-r.invariant.perhaps
 
 pub returns-then-is_settled-clause-offers : goal.returns-then-is_settled-clause-offers
 returns-then-is_settled-clause-offers g c falls =
@@ -66,16 +73,12 @@ loop-r-preserved g c =
     let runs = c.runs-runs.result in
     let x = load_of c.in-Some.load in
     let is = ap answered c.in-Some.is in
-    let ends = run_le w k l r runs c.runs-runs.ensures c.loop-r-test.true in
     let found = rw (c.of-choice.ensures, c.line-line.ensures) at (sym c.candidate.ensures ∙ c.in-Some-candidate.is) in
-    let around = rw c.line-line.ensures at c.shift.ensures.around in
+    let each = rw (c.of-choice.ensures, c.line-line.ensures) at c.shift.ensures.each in
     let turns = rw (c.of-choice.ensures, c.line-line.ensures) at c.shift.ensures.turns in
     record {
       same = search rules;
-      around = record {
-        below = λ i h. around.below i (omega arith) ∙ c.loop-r.invariant.around.below i h;
-        above = λ i h. around.above i (omega (arith, ends)) ∙ c.loop-r.invariant.around.above i h;
-      };
+      perhaps = within_more s w c.args.ideal (answered c.args.load.now) x c.args.from c.args.to k l r runs t u (table s c.shift.new.self) is c.runs-runs.ensures c.loop-r-test.true c.requires.apart c.loop-r.invariant.perhaps each;
       offered = λ falls.
           let done = c.loop-r.invariant.offered falls in
           let bounded = bounded_run s (law.total p.scale.now) (law.transitive p.scale.now) c.args.ideal x c.args.from c.args.to k l runs t falls (λ y z. law.monotone p.scale.now y z x c.in-Some.load.fair) c.in-Some-candidate.bound w c.runs-runs.ensures c.requires.apart found r c.loop-r-test.true (on s w c.args.ideal (answered c.args.load.now) (row l c.args.from t)) u done in
@@ -93,3 +96,9 @@ returns-clause-offers g c falls =
     let all = lines_all c.args.kind c.args.self.now.counts.k c.args.self.now.counts.l c.runs-runs.result c.runs-runs.ensures in
     let count : c.loop-r.r ≡ c.runs-runs.result.count = omega arith in
     rw (count, all) at (c.loop-r.invariant.offered falls)
+
+pub returns-clause-perhaps : goal.returns-clause-perhaps
+returns-clause-perhaps g c =
+    let all = lines_all c.args.kind c.args.self.now.counts.k c.args.self.now.counts.l c.runs-runs.result c.runs-runs.ensures in
+    let count : c.loop-r.r ≡ c.runs-runs.result.count = omega arith in
+    rw (count, all) at c.loop-r.invariant.perhaps

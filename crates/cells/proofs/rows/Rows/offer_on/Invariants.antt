@@ -1,6 +1,6 @@
 use Rattle.device.specs.Views.{answered}
-use Rattle.cells.specs.Rows.{width_of, on, row, Onto}
-use Rattle.cells.specs.Falls.{Fall, Around}
+use Rattle.cells.specs.Rows.{on, row, Onto}
+use Rattle.cells.specs.Falls.{BothFall, Within, PerhapsOn}
 use Rattle.cells.specs.Tables.{table, SameTables}
 use Rattle.cells.proofs.RowSteps.{lines_led}
 use Rattle.cells.proofs.rows.Rows.offer_on.Given as goal
@@ -12,6 +12,6 @@ invariant-loop-r g l =
     let now = table s l.tables in
     record {
       same : SameTables l.initial.tables l.tables;
-      around : Around (width_of l.self.counts.k l.self.counts.l) l.to before now;
-      offered : Fall s l.self.counts.k l.self.counts.l l.ideal l.from l.to before → Onto l.self.counts.l (lines_led l.fn.kind l.r) l.to (on s l.fn.kind l.ideal (answered l.fn.load) (row l.self.counts.l l.from before)) before now;
+      perhaps : Within l.self.counts.l (lines_led l.fn.kind l.r) l.to (PerhapsOn s l.fn.kind l.ideal (answered l.fn.load) (row l.self.counts.l l.from before)) before now;
+      offered : BothFall s l.self.counts.k l.self.counts.l l.ideal l.from l.to before → Onto l.self.counts.l (lines_led l.fn.kind l.r) l.to (on s l.fn.kind l.ideal (answered l.fn.load) (row l.self.counts.l l.from before)) before now;
     }

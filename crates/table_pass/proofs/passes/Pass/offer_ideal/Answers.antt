@@ -1,4 +1,4 @@
-use Rattle.std.proofs.Common.{◌-◌, ◌*◌, length, get_or, sym, ap, ◌∙◌, arith}
+use Rattle.std.proofs.Common.{◌-◌, ◌*◌, length, get_or, sym, ap, ◌∙◌}
 use Rattle.std.proofs.lemmas.Result.{IfOk-at_ok}
 use Rattle.sets.specs.Sets.{inside}
 use Rattle.sheet.specs.Nets.{Net}
@@ -9,8 +9,9 @@ use Rattle.recurrence.specs.Table.{one, two, cut}
 use Rattle.cells.specs.Rows.{width_of}
 use Rattle.cells.specs.Tables.{table}
 use Rattle.cells.proofs.Stops.{idle, falls_both, fair_answered}
-use Rattle.table_pass.specs.Passes.{setting_of}
-use Rattle.table_pass.proofs.Rows.{row_fits_in, rows_fit_in, cut_asked, offered_cut}
+use Rattle.table_pass.specs.Passes.{setting_of, leading}
+use Rattle.std.proofs.lemmas.Bool.{both_ways}
+use Rattle.table_pass.proofs.Rows.{rows_fit_in, cut_asked, offered_cut}
 use Rattle.table_pass.proofs.passes.Pass.offer_ideal.Goals as goal
 
 pub returns-then-not-leads_on-clause-rows : goal.returns-then-not-leads_on-clause-rows
@@ -67,3 +68,6 @@ returns-clause-holds g c =
     rw c.row_at-to.ensures at (falls_both s (law.total scale) (law.transitive scale) c.args.j (answered c.load-x.result) (answered c.load-y.result)
     (λ x is y z. law.monotone scale y z x (fair_answered c.load-x.result x is)) (λ x is y z. law.monotone scale y z x (fair_answered c.load-y.result x is))
     c.row_at-from.result c.row_at-to.result p.rows.counts.k p.rows.counts.l (table s c.args.tables.now) (table s c.offer.new.tables) (rw (c.row_at-from.ensures, c.row_at-to.ensures) (c.requires.falls, c.requires.holds)) done)
+
+pub returns-clause-idle : goal.returns-clause-idle
+returns-clause-idle g c none = absurd (both_ways (leading c.args.self.now c.args.tables.now c.args.j) none (sym c.leads_on.ensures ∙ c.if-not-leads_on.false))
