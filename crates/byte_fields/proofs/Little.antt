@@ -1,6 +1,6 @@
 use Rattle.std.proofs.Common.{◌≡◌, ℕ, zero, suc, ◌+◌, ◌-◌, ◌*◌, ◌/◌, ◌%◌, ◌^◌, ◌<◌, ◌≤◌, List, [], ◌∷◌, ◌++◌, length, take, drop, refl, ap, ◌∙◌, mul_assoc, arith}
 use native.Mathlib.Nat.{pow-succ', mod-add-div, div-div-eq-div-mul}
-use Rattle.std.proofs.lemmas.List.{take-take, drop-take, drop-drop}
+use Rattle.std.proofs.lemmas.List.{take_at, drop_at, take-take, drop-take, drop-drop}
 use Rattle.byte_fields.specs.Little.{little, spread, field, Bytes}
 
 -- a number that n bytes can hold is what its n bytes stand for
@@ -35,6 +35,13 @@ little_append [] cs = omega arith
 little_append (b ∷ bs) cs =
     let more = ap (λ (p : ℕ). p * little cs) (pow-succ' 256 (length bs)) ∙ mul_assoc 256 (256 ^ length bs) (little cs) in
     omega (arith, little_append bs cs, more)
+
+-- a field that was laid down is read again
+pub field_at : (front : List ℕ) (n x : ℕ) (rest : List ℕ) (at : ℕ) → length front ≡ at → x < 256 ^ n → field (front ++ (spread n x ++ rest)) at n ≡ x
+field_at front n x rest at e h =
+    ap (λ (cs : List ℕ). little (take n cs)) (drop_at front (spread n x ++ rest) at e)
+    ∙ ap little (take_at (spread n x) rest n (length_spread n x))
+    ∙ little_spread n x h
 
 -- a field inside a part
 pub field_part : (bs : List ℕ) (a at n m : ℕ) → at + n ≤ m → field (take m (drop a bs)) at n ≡ field bs (a + at) n

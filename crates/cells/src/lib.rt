@@ -8,5 +8,5 @@ mod tables;
 
 pub use choices::Choice;
 pub use row_errors::RowError;
-pub use rows::Rows;
+pub use rows::{Rows, width};
 pub use tables::Tables;

@@ -28,6 +28,13 @@ struct Runs {
     step: usize,
 }
 
+// How many cells a row has where there are so many devices.
+pub fn width(counts: Counts) -> usize
+    ensures { result ≡ width_of counts.k counts.l }
+{
+    (usize::from(counts.k) + 1) * (usize::from(counts.l) + 1)
+}
+
 // Whether a row of `width` cells that begins at `at` ends within `cells` cells.
 fn ends_within(at: usize, width: usize, cells: usize) -> bool
     ensures { result ≡ nat_le (at + width) cells }
@@ -43,7 +50,7 @@ impl<'a, S: Scale> Rows<'a, S> {
         Rows {
             scale,
             counts,
-            width: (usize::from(counts.k) + 1) * (usize::from(counts.l) + 1),
+            width: width(counts),
         }
     }
 

@@ -41,7 +41,7 @@ impl RefusalRecord {
             } => RefusalRecord {
                 entry,
                 number,
-                section: section.number(),
+                section,
                 reason: reason.number(),
             },
             _ => RefusalRecord {

@@ -52,7 +52,7 @@ fn reason(refusal: Refusal) -> Reason {
 
 fn wrong(section: Section, entry: usize, refusal: Refusal) -> Refusal {
     Refusal::BodyEntry {
-        section,
+        section: section.number(),
         entry,
         reason: reason(refusal),
     }

@@ -6,7 +6,7 @@ use std::test::Fail;
 
 fn body(section: Section, entry: usize, reason: Reason) -> Refusal {
     Refusal::BodyEntry {
-        section,
+        section: section.number(),
         entry,
         reason,
     }

@@ -39,7 +39,7 @@ told NoSplit = 10 ∷ []
 told NoStage = 11 ∷ []
 told NotASheetFile = 12 ∷ []
 told (ContentsEntry index) = 13 ∷ index ∷ []
-told (BodyEntry section entry reason) = 14 ∷ section_number section ∷ entry ∷ told_reason reason ∷ []
+told (BodyEntry section entry reason) = 14 ∷ section ∷ entry ∷ told_reason reason ∷ []
 told BufferTooShort = 15 ∷ []
 
 abbrev pub outcome : {X : Type 0} → Result X Refusal → List ℕ

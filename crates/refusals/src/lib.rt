@@ -52,9 +52,9 @@ pub enum Refusal {
     NotASheetFile,
     // the contents entry with this index is wrong
     ContentsEntry(u8),
-    // in the body of a section, the entry with an index is wrong
+    // in the body of the section with a number, the entry with an index is wrong
     BodyEntry {
-        section: Section,
+        section: u8,
         entry: usize,
         reason: Reason,
     },
@@ -119,7 +119,6 @@ impl fmt::Display for Refusal {
                 entry,
                 reason,
             } => {
-                let section = section.number();
                 let reason = reason.number();
                 write!(f, "{number} {section} {entry} {reason}")
             }

@@ -1,5 +1,7 @@
--- That what each change leads to keeps the rules of a sheet.
-use Rattle.std.proofs.Common.{◌≡◌, ℕ, ◌+◌, ◌<◌, ◌≤◌, true, eqb, List, [], ◌∷◌, ◌++◌, length, get_or, map, take, set, sym, ap, ◌∙◌, subst, inl, inr, arith, length-set}
+-- When each change is refused or granted, and that what it leads to keeps the rules of a sheet.
+use Rattle.std.proofs.Common.{◌≡◌, ℕ, ◌+◌, ◌<◌, ◌≤◌, true, false, eqb, List, [], ◌∷◌, ◌++◌, length, get_or, map, take, set, sym, ap, ◌∙◌, subst, inl, inr, arith, length-set}
+use Rattle.refusals.specs.declared.Refusal.TheVariants.{AboveLimit, SheetFull, EdgeExists}
+use Rattle.refusals.specs.Told.{told}
 use Rattle.sets.specs.Sets.{has, In, including}
 use Rattle.sets.proofs.Sets.{has_none, has_including}
 use Rattle.std.proofs.lemmas.List.{get_or-set_same, get_or-set_other, get_or_past, length_push, get_or_append_left, get_or_push, set_past}
@@ -7,16 +9,42 @@ use Rattle.std.proofs.lemmas.Bool.Decides.{nat_tests}
 use Rattle.std.proofs.lemmas.Bool.{or_cases, eqb-true, both_ways, cases_eq, cases_lt}
 use Rattle.sheet.specs.declared.operators.Operator.{Operator}
 use Rattle.sheet.specs.declared.nodes.Node.{Node}
-use Rattle.sheet.specs.Rules.{blank, Within, Modest, Upward}
+use Rattle.sheet.specs.Rules.{most_operators, blank, Within, Modest, Upward}
+use Rattle.sheet.specs.Nets.{Net, size, after}
 use Rattle.sheet.specs.Nodes.{figures_in, successors_in}
-use Rattle.sheet.specs.Changes.{within}
+use Rattle.sheet.specs.Changes.{within, add_refusal, join_refusal, retime_refusal}
 use Rattle.sheet.proofs.Fronts.{blank_node, front_length, front_at, front_more, front_set}
+
+-- ---- refused or granted
+
+module _ (n : Net) (o : Operator) where
+  pub add_full : most_operators ≤ size n → told SheetFull ≡ add_refusal n o
+  add_full full = grind (arith, nat_tests)
+
+  pub add_above : size n < most_operators → within o ≡ false → told AboveLimit ≡ add_refusal n o
+  add_above room above = grind (arith, nat_tests)
+
+  pub add_granted : size n < most_operators → within o ≡ true → [] ≡ add_refusal n o
+  add_granted room fits = grind (arith, nat_tests)
+
+  pub retime_granted : (v : ℕ) → v < size n → within o ≡ true → [] ≡ retime_refusal n v o
+  retime_granted v l fits = grind (arith, nat_tests)
+
+module _ (n : Net) (u v : ℕ) (from : u < size n) (to : v < size n) (up : u < v) where
+  pub join_there : has (after n u) v ≡ true → told EdgeExists ≡ join_refusal n u v
+  join_there there = grind (arith, nat_tests)
+
+  pub join_granted : has (after n u) v ≡ false → [] ≡ join_refusal n u v
+  join_granted new = grind (arith, nat_tests)
 
 -- ---- one operator more
 
 -- the test says what the rule says
 pub within_means : (o : Operator) → within o ≡ true → Within o
 within_means o e = grind (arith, nat_tests)
+
+pub true_within : (o : Operator) → Within o → within o ≡ true
+true_within o fits = grind (arith, nat_tests)
 
 pub modest_push : (rows : List Operator) (o : Operator) → Modest rows → Within o → Modest (rows ++ (o ∷ []))
 modest_push rows o modest fits v = elim (cases_lt v (length rows)) [

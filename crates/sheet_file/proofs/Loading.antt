@@ -8,7 +8,7 @@ use Rattle.refusals.specs.declared.Reason.{Reason}
 use Rattle.refusals.specs.declared.Section.TheVariants as sections
 use Rattle.refusals.specs.declared.Refusal.{Refusal}
 use Rattle.refusals.specs.declared.Refusal.TheVariants.{BodyEntry}
-use Rattle.refusals.specs.Told.{told}
+use Rattle.refusals.specs.Told.{told, section_number}
 use Rattle.sheet.specs.declared.operators.Operator.{Operator}
 use Rattle.sheet.specs.Nets.{Net, size, Edge, empty}
 use Rattle.sheet.specs.Changes.{first, added, joined}
@@ -89,7 +89,7 @@ comes_ascends bs (suc i) = refl
 -- what is told where an edge has such an outcome
 abbrev pub tells : ℕ → Result (Unit {0}) Reason → List ℕ
 tells i (Ok x) = []
-tells i (Err r) = told (BodyEntry sections.Edges i r)
+tells i (Err r) = told (BodyEntry (section_number sections.Edges) i r)
 
 pub pair_tells : (n : ℕ) (bs : List ℕ) (i : ℕ) (last : Option Pair) (p : Pair) → last ≡ last_at bs i → p ≡ pair_at bs i → tells i (pair_outcome n last p) ≡ edge_refusal n bs i
 pair_tells n bs i last p before here =

@@ -7,14 +7,14 @@ use Rattle.refusals.specs.declared.Reason.{Reason}
 use Rattle.refusals.specs.declared.Reason.TheVariants.{AboveLimit, NoOperator, NotUpward, NotAscending}
 use Rattle.refusals.specs.declared.Section.TheVariants as sections
 use Rattle.refusals.specs.declared.Refusal.TheVariants.{BodyEntry}
-use Rattle.refusals.specs.Told.{told}
+use Rattle.refusals.specs.Told.{told, section_number}
 use Rattle.sheet.specs.declared.operators.Operator.{Operator}
 use Rattle.sheet.specs.Changes.{unless, within}
 use Rattle.sheet.specs.Nets.{Net, Edge}
 use Rattle.sheet_layout.specs.Bodies.{from, to, ascends}
 
 abbrev pub row_told : ℕ → Operator → List ℕ
-row_told v o = unless (within o) (told (BodyEntry sections.Operators v AboveLimit))
+row_told v o = unless (within o) (told (BodyEntry (section_number sections.Operators) v AboveLimit))
 
 abbrev pub edge_reason : List ℕ → Reason
 edge_reason ts = cond (slice_index ts 0 == 4) NotUpward (cond (slice_index ts 0 == 5) NotAscending NoOperator)

@@ -48,7 +48,7 @@ fn add_row(sheet: &mut Sheet, v: usize, row: Operator) -> Result<(), Refusal>
     ensures reads { net sheet.new ≡ changed (outcome result) (net sheet.old) (added (net sheet.old) row) }
 {
     sheet.add(row).map_err(|_| Refusal::BodyEntry {
-        section: Section::Operators,
+        section: Section::Operators.number(),
         entry: v,
         reason: Reason::AboveLimit,
     })?;
@@ -119,7 +119,7 @@ fn join_edges(sheet: &mut Sheet, body: &[u8]) -> Result<(), Refusal>
             to: *to,
         };
         join_edge(sheet, last, pair).map_err(|reason| Refusal::BodyEntry {
-            section: Section::Edges,
+            section: Section::Edges.number(),
             entry: i,
             reason,
         })?;
@@ -139,7 +139,7 @@ fn set_counts(sheet: &mut Sheet, body: &[u8]) -> Result<(), Refusal>
     sheet
         .count(body[0], body[1])
         .map_err(|_| Refusal::BodyEntry {
-            section: Section::Counts,
+            section: Section::Counts.number(),
             entry: 0,
             reason: Reason::CountAboveLimit,
         })

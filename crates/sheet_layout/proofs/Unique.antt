@@ -33,8 +33,9 @@ abbrev with_parts : List Operator → List ℕ → ℕ → ℕ → Net
 with_parts rows successors k l = record { rows = rows; successors = successors; k = k; l = l }
 
 -- sheets with the same parts are the same
-same_nets : (m n : Net) → m.rows ≡ n.rows → m.successors ≡ n.successors → m.k ≡ n.k → m.l ≡ n.l → with_parts m.rows m.successors m.k m.l ≡ with_parts n.rows n.successors n.k n.l
-same_nets m n rows successors k l = cc
+pub same_nets : (m n : Net) → m.rows ≡ n.rows → m.successors ≡ n.successors → m.k ≡ n.k → m.l ≡ n.l → m ≡ n
+same_nets m n rows successors k l =
+    let same : with_parts m.rows m.successors m.k m.l ≡ with_parts n.rows n.successors n.k n.l = cc in same
 
 pub laid_out_unique : (f : List ℕ) (m n : Net) → LaidOut f m → LaidOut f n → m ≡ n
 laid_out_unique f m n a b =

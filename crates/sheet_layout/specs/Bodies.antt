@@ -10,7 +10,7 @@ use Rattle.byte_fields.specs.Little.{field}
 use Rattle.refusals.specs.declared.Reason.TheVariants as reasons
 use Rattle.refusals.specs.declared.Section.TheVariants as sections
 use Rattle.refusals.specs.declared.Refusal.TheVariants.{BodyEntry}
-use Rattle.refusals.specs.Told.{told}
+use Rattle.refusals.specs.Told.{told, section_number}
 use Rattle.sheet.specs.declared.operators.Operator.{Operator}
 use Rattle.sheet.specs.Rules.{most_devices}
 use Rattle.sheet.specs.Nets.{Net, empty}
@@ -37,17 +37,17 @@ first_wrong check zero = []
 first_wrong check (suc n) = first (first_wrong check n) (check n)
 
 abbrev pub row_refusal : List ℕ → ℕ → List ℕ
-row_refusal bs v = unless (within (row_at bs (16 * v))) (told (BodyEntry sections.Operators v reasons.AboveLimit))
+row_refusal bs v = unless (within (row_at bs (16 * v))) (told (BodyEntry (section_number sections.Operators) v reasons.AboveLimit))
 
 -- of an edge among n operators
 abbrev pub edge_refusal : ℕ → List ℕ → ℕ → List ℕ
 edge_refusal n bs i =
-    first (unless (nat_lt (from bs i) n && nat_lt (to bs i) n) (told (BodyEntry sections.Edges i reasons.NoOperator)))
-    (first (unless (nat_lt (from bs i) (to bs i)) (told (BodyEntry sections.Edges i reasons.NotUpward)))
-    (unless (ascends bs i) (told (BodyEntry sections.Edges i reasons.NotAscending))))
+    first (unless (nat_lt (from bs i) n && nat_lt (to bs i) n) (told (BodyEntry (section_number sections.Edges) i reasons.NoOperator)))
+    (first (unless (nat_lt (from bs i) (to bs i)) (told (BodyEntry (section_number sections.Edges) i reasons.NotUpward)))
+    (unless (ascends bs i) (told (BodyEntry (section_number sections.Edges) i reasons.NotAscending))))
 
 abbrev pub counts_refusal : List ℕ → List ℕ
-counts_refusal bs = unless (nat_le (slice_index bs 0) most_devices && nat_le (slice_index bs 1) most_devices) (told (BodyEntry sections.Counts 0 reasons.CountAboveLimit))
+counts_refusal bs = unless (nat_le (slice_index bs 0) most_devices && nat_le (slice_index bs 1) most_devices) (told (BodyEntry (section_number sections.Counts) 0 reasons.CountAboveLimit))
 
 abbrev pub rows_in : List ℕ → ℕ
 rows_in bs = length bs / 16

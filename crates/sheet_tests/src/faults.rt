@@ -28,7 +28,7 @@ fn contents(index: u8) -> Option<Refusal> {
 
 fn body(section: Section, entry: usize, reason: Reason) -> Option<Refusal> {
     Some(Refusal::BodyEntry {
-        section,
+        section: section.number(),
         entry,
         reason,
     })

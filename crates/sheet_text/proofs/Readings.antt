@@ -1,14 +1,15 @@
 -- The lines that spell items, read again one after another.
-use Rattle.std.proofs.Common.{◌≡◌, ℕ, suc, ◌+◌, ◌<◌, ◌≤◌, true, false, ◌&&◌, List, [], ◌∷◌, ◌++◌, length, set, fold, replicate, codes, decimal, leb, ltb, Some, Ok, refl, sym, ap, ◌∙◌, arith}
+use Rattle.std.proofs.Common.{◌≡◌, ℕ, suc, ◌+◌, ◌<◌, ◌≤◌, false, List, [], ◌∷◌, ◌++◌, length, set, fold, replicate, codes, decimal, ltb, Some, Ok, refl, sym, ap, ◌∙◌, arith}
 use Rattle.std.specs.List.{AllByRecursion, flat_map}
-use Rattle.std.proofs.lemmas.Bool.{cond-true, lt-ltb, le-leb, ne_eqb, eq-eqb, and_from}
+use Rattle.std.proofs.lemmas.Bool.{cond-true, lt-ltb, ne_eqb, eq-eqb}
 use Rattle.std.proofs.lemmas.List.{append_assoc, append-nil, get_or-set_same, length-append, length-set, set-get_or, set-set}
 use Rattle.sets.specs.Sets.{has, including}
 use Rattle.sets.proofs.Members.{included}
 use Rattle.sheet.specs.declared.operators.Operator.{Operator as Figures}
 use Rattle.sheet.specs.Rules.{Within}
 use Rattle.sheet.specs.Nets.{Net, size, after}
-use Rattle.sheet.specs.Changes.{add_refusal, added, join_refusal, joined, within}
+use Rattle.sheet.specs.Changes.{added, joined}
+use Rattle.sheet.proofs.Changes.{true_within, add_granted, join_granted}
 use Rattle.sheet_layout.proofs.Edges.{joined_after}
 use Rattle.sheet_layout.proofs.Rising.{Rising}
 use Rattle.sheet_text.specs.declared.items.Item.{Item}
@@ -49,15 +50,6 @@ count_word = record { some = omega arith; high = (omega arith, (omega arith, (om
 
 -- ---- the operators
 
-within_true : (o : Figures) → Within o → within o ≡ true
-within_true o h =
-    and_from (leb o.acc 1000000) (leb o.cpu 1000000 && (leb o.size 1000000 && leb o.link 1000000)) (le-leb o.acc 1000000 h.0)
-    (and_from (leb o.cpu 1000000) (leb o.size 1000000 && leb o.link 1000000) (le-leb o.cpu 1000000 h.1)
-    (and_from (leb o.size 1000000) (leb o.link 1000000) (le-leb o.size 1000000 h.2) (le-leb o.link 1000000 h.3)))
-
-add_granted : (n : Net) (o : Figures) → size n < 64 → Within o → add_refusal n o ≡ []
-add_granted n o room h = rw (lt-ltb (size n) 64 room, within_true o h) refl
-
 operator_spelled : (o : Figures) → operator_line o ≡ spaced (codes "op") (decimal o.acc ∷ decimal o.cpu ∷ decimal o.size ∷ decimal o.link ∷ []) ++ (10 ∷ [])
 operator_spelled o = simp append_assoc
 
@@ -74,7 +66,7 @@ operators_again (o ∷ os) n all room i rest =
     (decimal_word o.acc (omega (arith, within.0)), (decimal_word o.cpu (omega (arith, within.1)), (decimal_word o.size (omega (arith, within.2)), (decimal_word o.link (omega (arith, within.3)), tt)))) in
     let next : i + 1 + length os ≡ i + suc (length os) = omega arith in
     ap (λ t. after_lines i n (lines t)) (append_assoc (operator_line o) (flat_map operator_line os) rest)
-    ∙ line_first (codes "op") (decimal o.acc ∷ decimal o.cpu ∷ decimal o.size ∷ decimal o.link ∷ []) op_word words (Operator o) (operator_again o within) n (add_granted n o (omega (arith, room)) within) (operator_line o) (flat_map operator_line os ++ rest) (operator_spelled o) i
+    ∙ line_first (codes "op") (decimal o.acc ∷ decimal o.cpu ∷ decimal o.size ∷ decimal o.link ∷ []) op_word words (Operator o) (operator_again o within) n (sym (add_granted n o (omega (arith, room)) (true_within o within))) (operator_line o) (flat_map operator_line os ++ rest) (operator_spelled o) i
     ∙ operators_again os (added n o) all.1 (omega (arith, room, length-append n.rows (o ∷ []))) (i + 1) rest
     ∙ ap (λ k. after_lines k (with_operators (added n o) os) (lines rest)) next
 
@@ -83,9 +75,6 @@ with_operators_is [] n = rw (append-nil n.rows, append-nil n.successors) refl
 with_operators_is (o ∷ os) n = with_operators_is os (added n o) ∙ rw (append_assoc n.rows (o ∷ []) os, append_assoc n.successors (0 ∷ []) (replicate (length os) 0)) refl
 
 -- ---- the edges from an operator
-
-join_granted : (n : Net) (u v : ℕ) → u < v → v < size n → has (after n u) v ≡ false → join_refusal n u v ≡ []
-join_granted n u v up near none = rw (lt-ltb u (size n) (omega arith), lt-ltb v (size n) near, lt-ltb u v up, none) refl
 
 edge_spelled : (u v : ℕ) → edge_line u v ≡ spaced (codes "edge") (decimal u ∷ decimal v ∷ []) ++ (10 ∷ [])
 edge_spelled u v = simp append_assoc
@@ -119,7 +108,7 @@ edges_from_again (v ∷ vs) n u there few rising all i rest =
     let words : AllByRecursion Word (decimal u ∷ decimal v ∷ []) = (decimal_word u (omega (arith, free.up, free.near)), (decimal_word v (omega (arith, free.near)), tt)) in
     let next : i + 1 + length vs ≡ i + suc (length vs) = omega arith in
     ap (λ t. after_lines i n (lines t)) (append_assoc (edge_line u v) (flat_map (edge_line u) vs) rest)
-    ∙ line_first (codes "edge") (decimal u ∷ decimal v ∷ []) edge_word words (Edge u v) (edge_again u v (omega (arith, free.up, free.near)) (omega (arith, free.near))) n (join_granted n u v free.up free.near free.free) (edge_line u v) (flat_map (edge_line u) vs ++ rest) (edge_spelled u v) i
+    ∙ line_first (codes "edge") (decimal u ∷ decimal v ∷ []) edge_word words (Edge u v) (edge_again u v (omega (arith, free.up, free.near)) (omega (arith, free.near))) n (sym (join_granted n u v (omega (arith, free.up, free.near)) free.near free.up free.free)) (edge_line u v) (flat_map (edge_line u) vs ++ rest) (edge_spelled u v) i
     ∙ edges_from_again vs (joined n u v) u (omega (arith, there, length-set {A = ℕ})) few rising.1 (still_free n u v there vs rising.0 all.1) (i + 1) rest
     ∙ ap (λ k. after_lines k (with_edges_from (joined n u v) u vs) (lines rest)) next
 
