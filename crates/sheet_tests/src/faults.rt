@@ -237,3 +237,15 @@ fn the_first_of_two_faults_is_told(rt: HostRuntime) {
         body(Section::Edges, 1, Reason::NotAscending)
     );
 }
+
+#[test]
+fn a_refusal_names_any_section(rt: HostRuntime) {
+    for section in [0, 1, 3, 4, 255] {
+        let refusal = Refusal::BodyEntry {
+            section,
+            entry: 7,
+            reason: Reason::AboveLimit,
+        };
+        assert_eq!(rt; refusal.number(), 14);
+    }
+}
