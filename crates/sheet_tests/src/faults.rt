@@ -2,6 +2,7 @@
 use super::samples::{DIAMOND, EMPTY};
 use refusals::{Reason, Refusal, Section};
 use sheet_file::load;
+use std::test::Fail;
 
 // Why a file is refused.
 pub(crate) fn refusal(file: &[u8]) -> Option<Refusal> {
@@ -239,13 +240,15 @@ fn the_first_of_two_faults_is_told(rt: HostRuntime) {
 }
 
 #[test]
-fn a_refusal_names_any_section(rt: HostRuntime) {
-    for section in [0, 1, 3, 4, 255] {
+fn a_refusal_names_any_section(rt: HostRuntime) -> Result<(), Fail> {
+    for (section, told) in [(0, "14 0 7 1"), (4, "14 4 7 1"), (255, "14 255 7 1")] {
         let refusal = Refusal::BodyEntry {
             section,
             entry: 7,
             reason: Reason::AboveLimit,
         };
-        assert_eq!(rt; refusal.number(), 14);
+        let text = format!(in rt.alloc(); "{refusal}")?;
+        assert_eq!(rt; text.as_str(), told);
     }
+    Ok(())
 }
